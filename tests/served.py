@@ -6,6 +6,7 @@ import ctypes
 import errno
 import fcntl
 import hashlib
+import itertools
 import json
 import os
 import pathlib
@@ -112,15 +113,18 @@ class Server:
     """A server with these options, its console at standard input unless they say otherwise."""
 
     def __init__(self, program, *options, key=("--key-file", "key"), host="127.0.0.1", port=None,
-                 output=subprocess.PIPE, policy=POLICY, devices=DEVICES.decode(), before=None):
+                 has_port=True, proxy=None, output=subprocess.PIPE, policy=POLICY,
+                 devices=DEVICES.decode(), before=None):
         self.folder = tempfile.TemporaryDirectory(prefix="tacd-served-")
         self.address = (host, port or free_port())
+        places = {"--port": self.address[1] if has_port else None, "--proxy": proxy}
+        self.places = {option: str(place) for option, place in places.items() if place}
         files = {"policy": policy.encode(), "key": KEY + b"\n", "devices": devices.encode()}
         for name, text in files.items():
             path = pathlib.Path(self.folder.name, name)
             path.write_bytes(text)
             path.chmod(0o600)
-        words = ["serve", "--port", str(self.address[1]), *key, *options, "policy"]
+        words = ["serve", *itertools.chain(*self.places.items()), *key, *options, "policy"]
         self.process = subprocess.Popen(
             ["tacd", *words],
             executable=program,
@@ -140,12 +144,13 @@ class Server:
         self.folder.cleanup()
 
     def ends(self, typed="", answers="", complained="", status=0, is_listening=True):
-        """After these lines it has printed its port and these answers, and ends so."""
+        """After these lines it has printed where it listens and these answers, and ends so."""
         try:
             printed, said = self.process.communicate(typed.encode(), LONGEST_WAIT)
         except subprocess.TimeoutExpired:
             raise Wrong(f"it didn't end after {typed!r}") from None
-        expected = f"listening {self.address[1]}\n{answers}" if is_listening else answers
+        places = self.places.values() if is_listening else ()
+        expected = "".join(f"listening {place}\n" for place in places) + answers
         came = ((printed or b"").decode(), said.decode(), self.process.returncode)
         require(came == (expected, complained, status), f"after {typed!r} it ended by {came}")
 

@@ -75,7 +75,7 @@ status 2
 $ tacd serve --port 1 --devices devices --key k policy
 ! error: the argument '--devices <PATH>' cannot be used with '--key <K>'
 !
-! Usage: tacd serve --port <P> <--key <K>|--key-file <PATH>|--devices <PATH>> <FILE>
+! Usage: tacd serve <--port <P>|--proxy <PATH>> <--key <K>|--key-file <PATH>|--devices <PATH>> <FILE>
 !
 ! For more information, try '--help'.
 status 2
@@ -83,7 +83,7 @@ status 2
 $ tacd serve --port 1 --key-file key --devices devices policy
 ! error: the argument '--key-file <PATH>' cannot be used with '--devices <PATH>'
 !
-! Usage: tacd serve --port <P> <--key <K>|--key-file <PATH>|--devices <PATH>> <FILE>
+! Usage: tacd serve <--port <P>|--proxy <PATH>> <--key <K>|--key-file <PATH>|--devices <PATH>> <FILE>
 !
 ! For more information, try '--help'.
 status 2

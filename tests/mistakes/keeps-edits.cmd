@@ -3,7 +3,7 @@ $ tacd serve --port 1 --keep-edits kept --key k policy
 ! error: the following required arguments were not provided:
 !   --console <PATH>
 !
-! Usage: tacd serve --port <P> --console <PATH> --keep-edits <PATH> <--key <K>|--key-file <PATH>|--devices <PATH>> <FILE>
+! Usage: tacd serve --console <PATH> --keep-edits <PATH> <--port <P>|--proxy <PATH>> <--key <K>|--key-file <PATH>|--devices <PATH>> <FILE>
 !
 ! For more information, try '--help'.
 status 2

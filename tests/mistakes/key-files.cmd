@@ -54,7 +54,7 @@ status 4
 $ tacd serve --port 1 --key k --key-file key policy
 ! error: the argument '--key <K>' cannot be used with '--key-file <PATH>'
 !
-! Usage: tacd serve --port <P> <--key <K>|--key-file <PATH>|--devices <PATH>> <FILE>
+! Usage: tacd serve <--port <P>|--proxy <PATH>> <--key <K>|--key-file <PATH>|--devices <PATH>> <FILE>
 !
 ! For more information, try '--help'.
 status 2

@@ -1,10 +1,10 @@
 $ tacd serve
 ! error: the following required arguments were not provided:
-!   --port <P>
+!   <--port <P>|--proxy <PATH>>
 !   <--key <K>|--key-file <PATH>|--devices <PATH>>
 !   <FILE>
 !
-! Usage: tacd serve --port <P> <--key <K>|--key-file <PATH>|--devices <PATH>> <FILE>
+! Usage: tacd serve <--port <P>|--proxy <PATH>> <--key <K>|--key-file <PATH>|--devices <PATH>> <FILE>
 !
 ! For more information, try '--help'.
 status 2

@@ -6,7 +6,7 @@ use crate::help::{
     DEVICES_HELP, DEVICES_PAGE, DIFF_PAGE, EDITS_HELP, EXIT_CODE_HELP, FAIL_DELAY_HELP, FILE_HELP,
     GIVEN_PAGE, GIVEN_USER_HELP, IDLE_HELP, KEEP_EDITS_HELP, KEEP_RECORDS_HELP, KEY_FILE_HELP,
     KEY_HELP, LINE_HELP, LINT_PAGE, LOG_HELP, LOGIN_IDLE_HELP, LONG_ABOUT, NEW_HELP,
-    NO_CONSOLE_HELP, OLD_HELP, PACKET_MEMORY_HELP, PER_ADDRESS_HELP, PORT_HELP, Page,
+    NO_CONSOLE_HELP, OLD_HELP, PACKET_MEMORY_HELP, PER_ADDRESS_HELP, PORT_HELP, PROXY_HELP, Page,
     REPLAY_LOG_HELP, REPLAY_PAGE, ROTATE_AT_HELP, SERVE_PAGE, SERVICE_HELP, SYNC_HELP, TEST_PAGE,
     TIME_HELP, USER_HELP, WHY_PAGE, WORD_HELP, WORKERS_HELP,
 };
@@ -74,6 +74,9 @@ pub(crate) const CASES: &str = "CASES";
 /// The port that a server listens on.
 pub(crate) const PORT: &str = "port";
 
+/// The socket at which a proxy calls.
+pub(crate) const PROXY: &str = "proxy";
+
 /// The key that a server shares with its devices.
 pub(crate) const KEY: &str = "key";
 
@@ -116,6 +119,9 @@ pub(crate) const NO_CONSOLE: &str = "no-console";
 
 /// The file of the devices that may call, each by its own key.
 pub(crate) const DEVICES_FILE: &str = "devices";
+
+// Where a server is called, by one of these options or by both.
+const PLACE: &str = "place";
 
 // Who may call by which key, by one of these options.
 const SECRET: &str = "secret";
@@ -222,13 +228,21 @@ fn with_limits<'a>(alloc: Global, command: Command<'a>) -> Result<Command<'a>, A
         .default_value("0"))
 }
 
+// A proxy's devices are those of a file.
+fn proxy<'a>(alloc: Global) -> Result<Arg<'a>, AllocError> {
+    text(alloc, PROXY, "PATH", PROXY_HELP)
+        .requires_arg(DEVICES_FILE)?
+        .conflicts_with_all(&[KEY, KEY_FILE])
+}
+
 // The options of a server, in the order of its help.
 fn with_options<'a>(alloc: Global, command: Command<'a>) -> Result<Command<'a>, AllocError> {
     let connections = (1, 4_294_967_295);
     let records = (1_000, 10_000_000);
     let calls = (1, i64::from(MAX_CALLS));
     let command = command
-        .arg(number(alloc, PORT, "P", (1, 65_535), PORT_HELP).required(true))?
+        .arg(number(alloc, PORT, "P", (1, 65_535), PORT_HELP))?
+        .arg(proxy(alloc)?)?
         .arg(text(alloc, KEY, "K", KEY_HELP))?
         .arg(text(alloc, KEY_FILE, "PATH", KEY_FILE_HELP))?
         .arg(text(alloc, DEVICES_FILE, "PATH", DEVICES_FILE_HELP))?
@@ -252,8 +266,14 @@ fn serve<'a>(alloc: Global) -> Result<Command<'a>, AllocError> {
         .arg(KEY_FILE)?
         .arg(DEVICES_FILE)?
         .required(true);
+    let place = ArgGroup::new(alloc, PLACE)
+        .arg(PORT)?
+        .arg(PROXY)?
+        .multiple(true)
+        .required(true);
     let command = with_page(alloc, SERVE, SERVE_PAGE);
     with_options(alloc, command)?
+        .group(place)?
         .group(secret)?
         .arg(required(alloc, FILE, FILE_HELP))
 }
@@ -334,7 +354,7 @@ pub(crate) fn word_of<'a>(matches: &ArgMatches<'a>, id: &str) -> &'a str {
 }
 
 /// The version of the program.
-pub(crate) const VERSION: &str = "0.17.0";
+pub(crate) const VERSION: &str = "0.18.0";
 
 /// What the program's command line may be.
 pub(crate) fn command<'a>(alloc: Global) -> Result<Command<'a>, AllocError> {

@@ -26,6 +26,7 @@ pub(crate) struct Condition<'a, H> {
     workers: u32,
     connections_limit: u32,
     callers: &'a Callers,
+    has_proxy: bool,
     records_limit: u64,
     // when it began
     began: Option<Duration>,
@@ -47,6 +48,7 @@ impl<'a, H: Clock> Condition<'a, H> {
             workers: options.settings.workers,
             connections_limit: options.settings.connections_at_once,
             callers: &options.settings.callers,
+            has_proxy: options.proxy.is_some(),
             records_limit: options.record_limit.most as u64,
             began: host.monotonic().ok(),
         }
@@ -108,6 +110,7 @@ impl<H: Clock + ConsoleHost> Status for Condition<'_, H> {
             workers: self.workers,
             connections_limit: self.connections_limit,
             devices: self.callers.count() as u64,
+            has_proxy: self.has_proxy,
             records_limit: self.records_limit,
             has_log: self.journal.is_some(),
             log_takes_lines,

@@ -5,7 +5,7 @@ ghost use Rattle.std.specs.Prelude.{[], Some};
 use std::io::{self, Read};
 use std::thread::sleep;
 use std::time::{Clock, Duration};
-use tac_net::Port;
+use tac_net::Listeners;
 
 /// What is said where a console has no lines, as where a unit gives none.
 const ENDED_AT_ONCE: &str = "tacd: the console's input ended at once, so the server stops: give it \
@@ -52,7 +52,7 @@ const GLANCE: u64 = 250;
 #[derive(Drop)]
 pub(crate) struct NoConsole<'a, H> {
     pub(crate) clock: &'a H,
-    pub(crate) port: &'a Port,
+    pub(crate) listeners: &'a Listeners,
 }
 
 impl<H: Clock> Read for NoConsole<'_, H> {
@@ -60,7 +60,7 @@ impl<H: Clock> Read for NoConsole<'_, H> {
 
     fn read(&mut self, _buf: &mut [u8]) -> io::Result<usize> {
         for _ in 0..u64::MAX {
-            if self.port.is_left() {
+            if self.listeners.is_left() {
                 return Ok(0);
             }
             sleep(self.clock, Duration::from_millis(GLANCE));

@@ -80,7 +80,10 @@ request and for each line of the console. A request is answered only once its li
 The key is 1 to 128 printable ASCII characters. Give it by --key-file: a key on the command line can
 be seen by everyone with a login on this machine, by 'ps' for one. Or give --devices a file of
 devices, each with its addresses and its own key, which 'tacd devices' checks: then a connection from
-any other address is closed unanswered.",
+any other address is closed unanswered.
+
+For TACACS+ over TLS 1.3 (RFC 9887), put stunnel or haproxy in front, which calls the socket of
+--proxy: then a device needs no key, but a line 'tls' in that file.",
     after_help: "Example:
   tacd serve --port 49 --key-file tacd.key campus.policy
 
@@ -92,7 +95,8 @@ nothing, or for a user who types a password. A connection is closed where the de
 had no reply for so many seconds as --idle or --login-idle says, at most 10 before the first reply.
 One beyond --connections-at-once or --per-address is closed as it comes, and none is given up for it.
 
-Standard output has 'listening PORT' first, and then the answers of a console on standard input.
+Standard output has 'listening PORT' first, 'listening PATH' where a proxy calls, and then the
+answers of a console on standard input.
 Standard error says so where too few files may be open for so many connections, as by 'ulimit -n'.
 
 Signals aren't seen: SIGTERM ends the server, and SIGHUP too. To run it in the background or in a
@@ -176,6 +180,9 @@ Exit status:
 };
 
 pub(crate) const PORT_HELP: &str = "The TCP port that devices call, 1 to 65535";
+
+pub(crate) const PROXY_HELP: &str =
+    "The Unix socket that a TLS proxy calls for devices, each call with a PROXY header first";
 
 pub(crate) const KEY_HELP: &str =
     "The key that server and devices share; other users of this machine see it";

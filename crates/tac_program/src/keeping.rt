@@ -13,7 +13,7 @@ use std::time::Clock;
 use tac_desks::LiveDesk;
 use tac_journal::{Journal, LogFiles};
 use tac_keep::{Complaint, KeepFiles, KeptDesk, KeptFile, KeptOutput};
-use tac_net::{Port, ServeFault};
+use tac_net::{Listeners, ServeFault};
 use tac_operators::Exchange;
 
 /// Which file's policy is served at first: that of the edits that were kept, where there are some.
@@ -53,7 +53,7 @@ pub(crate) fn serve_exchange<R, H>(
     options: &Options<'_>,
     desk: LiveDesk,
     journal: &Option<Journal<'_>>,
-    port: &Port,
+    listeners: &Listeners,
     exchange: &Exchange,
 ) -> Result<(), ServeFault>
 where
@@ -65,7 +65,7 @@ where
     let typists = Operators { host, exchange };
     let Some(path) = options.kept else {
         let console = (exchange.input(host), answers, typists);
-        return serve_console(rt, host, options, desk, journal, port, console);
+        return serve_console(rt, host, options, desk, journal, listeners, console);
     };
     let tray = &options.tray;
     let desk = watched(host, options, KeptDesk::new(host.alloc(), tray, desk));
@@ -74,5 +74,5 @@ where
     let notes = exchange.output(host, io::writer(rt));
     let output = KeptOutput::new(tray, store, complaint, notes, answers);
     let console = (exchange.input(host), output, typists);
-    serve_desk(rt, host, options, desk, journal, port, console)
+    serve_desk(rt, host, options, desk, journal, listeners, console)
 }

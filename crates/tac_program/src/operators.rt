@@ -16,8 +16,8 @@ use tac_audit::Typist;
 use tac_desks::LiveDesk;
 use tac_journal::{Journal, LogFiles, Typists};
 use tac_keep::KeepFiles;
-use tac_net::{Port, ServeFault};
-use tac_operators::{ConsoleHost, Door, Exchange, Patience, attend};
+use tac_net::{Listeners, ServeFault};
+use tac_operators::{ConsoleHost, ConsoleSocket, Exchange, Patience, attend};
 
 /// Those who type at an exchange.
 #[derive(Clone, Copy)]
@@ -42,12 +42,12 @@ impl<H: Wait> Typists for Operators<'_, H> {
 }
 
 // Where operators come in.
-fn door_at<'a, R: Eprint, H>(rt: &R, host: &H, path: &'a str) -> Result<Door<'a>, Status>
+fn socket_at<'a, R: Eprint, H>(rt: &R, host: &H, path: &'a str) -> Result<ConsoleSocket<'a>, Status>
 where
     H: ConsoleHost + Threads + Clock + Sync,
 {
-    match Door::open(host, path) {
-        Ok(door) => Ok(door),
+    match ConsoleSocket::open(host, path) {
+        Ok(socket) => Ok(socket),
         Err(error) => {
             let _ = eprintln!(rt; "tacd: {path}: {error}");
             Err(Status::of_unopened(error.kind()))
@@ -62,7 +62,7 @@ pub(crate) fn serve_operators<R, H>(
     options: &Options<'_>,
     desk: LiveDesk,
     journal: &Option<Journal<'_>>,
-    port: &Port,
+    listeners: &Listeners,
     path: &str,
 ) -> Result<(), Status>
 where
@@ -70,18 +70,18 @@ where
     H: Threads + Wait + Clock + Sync + AllocGlobal + Eprint + LogFiles + Net + ConsoleHost,
     H: KeepFiles,
 {
-    let door = door_at(rt, host, path)?;
+    let socket = socket_at(rt, host, path)?;
     let exchange = Exchange::new(host.alloc());
     let mut desk = Some(desk);
     let mut console = || -> Result<(), ServeFault> {
         match desk.take() {
-            Some(desk) => serve_exchange(rt, host, options, desk, journal, port, &exchange),
+            Some(desk) => serve_exchange(rt, host, options, desk, journal, listeners, &exchange),
             None => Ok(()),
         }
     };
     let condition = Condition::new(host, options, journal);
     let patience = Patience::usual();
-    let (end, parting) = attend(host, &door, &exchange, &condition, patience, &mut console);
+    let (end, parting) = attend(host, &socket, &exchange, &condition, patience, &mut console);
     let outcome = end.unwrap_or(Err(ServeFault::Threads));
     parting.tell(outcome.is_ok());
     ended(rt, outcome)

@@ -9,12 +9,12 @@ ghost use Rattle.tac_program.specs.Opening as opening;
 use crate::command_line::{
     ADDRESS, CONNECTIONS, CONNECTIONS_AT_ONCE, CONSOLE, DEVICES_FILE, FAIL_DELAY, FILE, IDLE,
     KEEP_EDITS, KEEP_RECORDS, KEY, KEY_FILE, LOG, LOGIN_IDLE, MAX_CALLS, NO_CONSOLE, PACKET_MEMORY,
-    PER_ADDRESS, PORT, ROTATE_AT, SYNC, WORKERS, word_of,
+    PER_ADDRESS, PORT, PROXY, ROTATE_AT, SYNC, WORKERS, word_of,
 };
 use crate::devices::directory_of_file;
 use crate::opening::open_secret;
 use crate::status::Status;
-use basics::split_once;
+use basics::{Bytes, split_once};
 use clap::ArgMatches;
 use std::net::{IpAddr, SocketAddr};
 use std::rt::Files;
@@ -22,7 +22,7 @@ use tac_desks::MAX_RECORDS;
 use tac_forum::Limits;
 use tac_io::{InputFault, read_whole};
 use tac_keep::Tray;
-use tac_net::{Callers, Idle, Settings};
+use tac_net::{Callers, ClearDoor, Idle, Settings};
 use tac_status::Counts;
 use tac_tally::RecordLimit;
 use tac_wire::{Key, KeyDoor};
@@ -45,8 +45,10 @@ const MEGABYTE: u64 = 1_048_576;
 #[derive(Drop)]
 pub(crate) struct Options<'a> {
     pub(crate) settings: Settings,
-    /// Where devices call.
-    pub(crate) address: SocketAddr,
+    /// Where devices call, if they call a port.
+    pub(crate) address: Option<SocketAddr>,
+    /// The socket at which a proxy calls, if there is one.
+    pub(crate) proxy: Option<&'a str>,
     /// The policy's file.
     pub(crate) path: &'a str,
     /// The devices' file, if there is one.
@@ -146,13 +148,22 @@ fn key_of<R: Files + Eprint + AllocGlobal>(
     }
 }
 
+// The door of those who come by a proxy, if one may call.
+fn clear_door(matches: &ArgMatches<'_>) -> Option<ClearDoor> {
+    matches.get_str(PROXY)?;
+    Some(ClearDoor::new())
+}
+
 // Which devices may call: any by one key, or those of a devices' file.
 fn callers_of<R>(rt: &R, matches: &ArgMatches<'_>) -> Result<Callers, Status>
 where
     R: Files + Print + Eprint + AllocGlobal,
 {
     match matches.get_str(DEVICES_FILE) {
-        Some(path) => Ok(Callers::Listed(directory_of_file(rt, path)?)),
+        Some(path) => Ok(Callers::Listed {
+            directory: directory_of_file(rt, path)?,
+            proxy: clear_door(matches),
+        }),
         None => {
             let key = key_of(rt, matches)?;
             Ok(Callers::Any(KeyDoor::new(key)))
@@ -195,11 +206,36 @@ fn hashers_of(processors: usize) -> u32
     processors.saturating_sub(1).clamp(1, 4) as u32
 }
 
+// The address with the port, if there is one.
+fn socket_address(address: IpAddr, port: Option<u16>) -> Option<SocketAddr> {
+    Some(SocketAddr::from((address, port?)))
+}
+
+// The same text, if there is one.
+fn copy_of<R: Eprint + AllocGlobal>(rt: &R, text: Option<&str>) -> Result<Option<Bytes>, Status> {
+    let Some(text) = text else {
+        return Ok(None);
+    };
+    match Bytes::from_slice(rt.alloc(), text.as_bytes()) {
+        Ok(copy) => Ok(Some(copy)),
+        Err(_) => {
+            let _ = eprintln!(rt; "tacd: memory ran out");
+            Err(Status::OutOfMemory)
+        }
+    }
+}
+
 // The numbers of a command line that was parsed, which has each of them within its bounds, on a
 // machine with so many processors.
-fn settings_of(matches: &ArgMatches<'_>, callers: Callers, processors: usize) -> Option<Settings> {
+fn settings_of(
+    matches: &ArgMatches<'_>,
+    proxy: Option<Bytes>,
+    callers: Callers,
+    processors: usize,
+) -> Option<Settings> {
     Some(Settings {
-        port: matches.get_one::<u16>(PORT)?,
+        port: matches.get_one::<u16>(PORT),
+        proxy,
         callers,
         workers: workers_of(
             matches.get_one::<u32>(WORKERS),
@@ -248,9 +284,12 @@ impl<'a> Options<'a> {
     {
         let address = address_of(rt, matches)?;
         let callers = callers_of(rt, matches)?;
-        match settings_of(matches, callers, processors) {
+        let proxy = matches.get_str(PROXY);
+        let path = copy_of(rt, proxy)?;
+        match settings_of(matches, path, callers, processors) {
             Some(settings) => Ok(Options {
-                address: SocketAddr::from((address, settings.port)),
+                address: socket_address(address, settings.port),
+                proxy,
                 settings,
                 path: word_of(matches, FILE),
                 devices: matches.get_str(DEVICES_FILE),

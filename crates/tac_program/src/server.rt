@@ -27,10 +27,14 @@ use tac_desk::Desk;
 use tac_desks::LiveDesk;
 use tac_journal::{Journal, LogFiles, OneInput, Typists};
 use tac_keep::KeepFiles;
-use tac_net::{FillingDesk, Port, ServeFault, ServerFiles, serve};
+use tac_net::{FillingDesk, Listeners, Port, ProxySocket, ServeFault, ServerFiles, serve};
 use tac_operators::ConsoleHost;
 use tac_status::CountedDesk;
 use tac_tally::RecordLimit;
+
+/// The rights of the socket that a proxy calls: its owner's, and those of its group, which is the
+/// proxy's where the folder is.
+const PROXY_MODE: u32 = 0o660;
 
 // The desk of the policy in a file, which keeps records as the limit says. The error here and below
 // is the status to end with.
@@ -92,7 +96,7 @@ where
     }
 }
 
-// Where devices call.
+// The port that devices call.
 fn port_at<R: Eprint, H>(rt: &R, host: &H, address: SocketAddr) -> Result<Port, Status>
 where
     H: Net<Listener = TcpListener, Stream = TcpStream>,
@@ -105,6 +109,41 @@ where
             Err(Status::of_unopened(error.kind()))
         }
     }
+}
+
+// The socket that a proxy calls.
+fn proxy_at<R: Eprint, H: ConsoleHost>(
+    rt: &R,
+    host: &H,
+    path: &str,
+) -> Result<ProxySocket, Status> {
+    let opened = match host.open_socket(path, PROXY_MODE) {
+        Ok(listener) => ProxySocket::new(listener),
+        Err(error) => Err(error),
+    };
+    match opened {
+        Ok(socket) => Ok(socket),
+        Err(error) => {
+            let _ = eprintln!(rt; "tacd: {path}: {error}");
+            Err(Status::of_unopened(error.kind()))
+        }
+    }
+}
+
+// Where the server is called.
+fn listeners_of<R: Eprint, H>(rt: &R, host: &H, options: &Options<'_>) -> Result<Listeners, Status>
+where
+    H: ConsoleHost + Net<Listener = TcpListener, Stream = TcpStream>,
+{
+    let port = match options.address {
+        Some(address) => Some(port_at(rt, host, address)?),
+        None => None,
+    };
+    let proxy = match options.proxy {
+        Some(path) => Some(proxy_at(rt, host, path)?),
+        None => None,
+    };
+    Ok(Listeners::new(port, proxy))
 }
 
 /// A desk whose edits and records are counted. Standard error says when its records fill up.
@@ -143,7 +182,7 @@ pub(crate) fn serve_desk<R, H, D: Desk + Send, I: Read + Drop, O: Write + Drop, 
     options: &Options<'_>,
     desk: D,
     journal: &Option<Journal<'_>>,
-    port: &Port,
+    listeners: &Listeners,
     console: (I, O, T),
 ) -> Result<(), ServeFault>
 where
@@ -163,7 +202,7 @@ where
     };
     serve(
         host,
-        port,
+        listeners,
         desk,
         &options.settings,
         &files,
@@ -179,7 +218,7 @@ pub(crate) fn serve_console<R, H, I: Read + Drop, O: Write + Drop, T: Typists + 
     options: &Options<'_>,
     desk: LiveDesk,
     journal: &Option<Journal<'_>>,
-    port: &Port,
+    listeners: &Listeners,
     console: (I, O, T),
 ) -> Result<(), ServeFault>
 where
@@ -187,7 +226,7 @@ where
     H: Threads + Wait + Clock + Sync + AllocGlobal + Eprint + LogFiles + Net,
 {
     let desk = watched(host, options, desk);
-    serve_desk(rt, host, options, desk, journal, port, console)
+    serve_desk(rt, host, options, desk, journal, listeners, console)
 }
 
 // Says why a server ended, unless it was stopped. The error is the status to end with.
@@ -218,22 +257,22 @@ where
         tell_of_edits(rt, options.path, first);
     }
     let journal = journal_of(rt, host, options)?;
-    let port = port_at(rt, host, options.address)?;
+    let listeners = listeners_of(rt, host, options)?;
     warn_of_few(rt, &options.settings);
     if let Some(path) = options.console {
-        return serve_operators(rt, host, options, desk, &journal, &port, path);
+        return serve_operators(rt, host, options, desk, &journal, &listeners, path);
     }
     let outcome = if options.has_console {
         let input = ConsoleInput::new(rt, rt.reader());
         let console = (input, io::writer(rt), OneInput);
-        serve_console(rt, host, options, desk, &journal, &port, console)
+        serve_console(rt, host, options, desk, &journal, &listeners, console)
     } else {
         let input = NoConsole {
             clock: host,
-            port: &port,
+            listeners: &listeners,
         };
         let console = (input, io::writer(rt), OneInput);
-        serve_console(rt, host, options, desk, &journal, &port, console)
+        serve_console(rt, host, options, desk, &journal, &listeners, console)
     };
     ended(rt, outcome)
 }

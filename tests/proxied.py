@@ -1,0 +1,381 @@
+"""Servers with a socket that a TLS proxy calls, and what comes there: the header that tells who
+called, and then packets in clear (RFC 9887). Each case is a function, as in served.py."""
+
+import contextlib
+import json
+import os
+import pathlib
+import socket
+import stat
+import struct
+import time
+
+from cases import Case, Check, Outcome, Play
+from notation import spelled
+from served import (
+    ASK,
+    CLOSING,
+    KEPT,
+    LOGIN,
+    LONGEST_WAIT,
+    NAME_WANTED,
+    PERMITTED,
+    RECORD,
+    SOON,
+    STORED,
+    Server,
+    answer,
+    connect,
+    is_answered,
+    is_closed,
+    require,
+    typed,
+)
+
+KEY = b"fjord-and-fell-2026-11"
+# One comes either way, one by a proxy with any certificate, one with its own alone, one with a key.
+DEVICES = f"""device both
+at 192.0.2.1
+at 127.0.0.1
+key {KEY.decode()}
+tls
+device any
+at 192.0.2.2
+tls
+connections 2
+device core
+at 2001:db8::/32
+at 192.0.2.3
+tls core-1.example
+device keyed
+at 192.0.2.4
+key {KEY.decode()}
+device inside
+at 127.0.0.5
+tls
+"""
+# TAC_PLUS_UNENCRYPTED_FLAG alone, and with TAC_PLUS_SINGLE_CONNECT_FLAG.
+IN_CLEAR, KEPT_IN_CLEAR = "01", "05"
+BAD_BODY = "c00202{flag}.00000001.0000000e.110000080000'bad body'"
+SIGNATURE = bytes.fromhex("0d0a0d0a000d0a515549540a")
+TLS, NAME = 0x20, 0x22
+NO_HEADER = "tacd: proxy: bad proxy header, its connection is closed\n"
+
+
+def cases(name):
+    """Each case of this file, with the name of the function that plays it."""
+    for play in (
+        packets_in_clear,
+        a_packet_without_the_flag,
+        the_port_beside_it,
+        a_proxy_alone,
+        certificates,
+        each_device_its_own_way,
+        headers_in_pieces,
+        no_headers,
+        nobody_called,
+        so_many_of_an_address,
+        the_socket,
+    ):
+        expected = Outcome(b"", b"", 0)
+        yield Case(f"{name}: {play.__name__}", [Check(Play(play), expected, "a proxy called")])
+
+
+def serving(program, *options, **more):
+    """A server of these devices, with a log, and a console at a socket."""
+    words = ("--console", "console", "--log", "log", *options)
+    more = {"key": ("--devices", "devices"), "devices": DEVICES, "proxy": "proxy", **more}
+    return Server(program, *words, **more)
+
+
+def line(address, family=4):
+    """A header of version 1."""
+    return f"PROXY TCP{family} {address} 198.51.100.1 40000 300\r\n".encode()
+
+
+def vector(kind, value):
+    return struct.pack(">BH", kind, len(value)) + value
+
+
+def header(address, name=None, command=0x21, verify=0, more=b""):
+    """A header of version 2, with the name of a certificate if one is said."""
+    family = socket.AF_INET6 if ":" in address else socket.AF_INET
+    places = socket.inet_pton(family, address) * 2 + struct.pack(">HH", 40000, 300)
+    inner = b"" if name is None else vector(NAME, name)
+    told = places + vector(TLS, struct.pack(">BI", 7, verify) + inner) + more
+    kind = 0x21 if family == socket.AF_INET6 else 0x11
+    return SIGNATURE + struct.pack(">BBH", command, kind, len(told)) + told
+
+
+def clear(text, flag=IN_CLEAR):
+    """A packet of the notation whose body is as it stands."""
+    return bytes.fromhex(spelled("packet " + text.format(flag=flag)).removeprefix("packet "))
+
+
+def flagged(text):
+    """The notation of a packet with the place for its flags."""
+    return f"{text[:6]}{{flag}}{text[8:]}"
+
+
+@contextlib.contextmanager
+def called(server, head=b""):
+    """A connection of a proxy that has sent this first."""
+    path = os.path.join(server.folder.name, "proxy")
+    until = time.monotonic() + LONGEST_WAIT
+    with socket.socket(socket.AF_UNIX) as device:
+        device.settimeout(LONGEST_WAIT)
+        while device.connect_ex(path):
+            require(time.monotonic() < until, "nobody listens")
+            time.sleep(0.005)
+        with contextlib.suppress(ConnectionError):
+            device.sendall(head)
+        yield device
+
+
+def asks(server, head, sent=ASK, wanted=PERMITTED):
+    """Whether a device of which a proxy tells this is answered so, on a connection of its own."""
+    wanted = clear(wanted)
+    with called(server, head) as device:
+        return answer(device, clear(sent), len(wanted)) == wanted
+
+
+def events(server):
+    """The lines of the log that a device made."""
+    lines = pathlib.Path(server.folder.name, "log").read_text("utf-8").splitlines()
+    return [event for event in map(json.loads, lines) if "device" in event]
+
+
+def refused(server):
+    """Why connections were refused, and of which devices."""
+    return [(event.get("name"), event["why"]) for event in events(server) if "count" in event]
+
+
+def ends(program, server, complained=""):
+    """It is told to end. No key is in what it printed, nor in its log."""
+    told = "".join(typed(program, server, text) for text in ("status", "quit"))
+    server.ends(complained=complained)
+    told += pathlib.Path(server.folder.name, "log").read_text("utf-8")
+    require(KEY.decode() not in told, f"a key is told: {told}")
+
+
+def packets_in_clear(program):
+    """Every kind of packet is answered in clear, with the flag, and as many on one connection as the
+    device wants. Lines of the log have the address and the name of which the proxy told."""
+    with serving(program) as server:
+        for head in (line("192.0.2.1"), header("192.0.2.1"), header("192.0.2.1", b"b\xc3\xb6b")):
+            for sent, wanted in ((ASK, PERMITTED), (flagged(LOGIN), flagged(NAME_WANTED))):
+                require(asks(server, head, sent, wanted), f"{head}: {sent} isn't answered")
+        with called(server, line("192.0.2.1")) as device:
+            for _ in range(3):
+                wanted = clear(PERMITTED, KEPT_IN_CLEAR)
+                came = answer(device, clear(ASK, KEPT_IN_CLEAR), len(wanted))
+                require(came == wanted, f"it is answered by {came}")
+            wanted = clear(flagged(STORED), KEPT_IN_CLEAR)
+            came = answer(device, clear(flagged(RECORD), KEPT_IN_CLEAR), len(wanted))
+            require(came == wanted, f"a record is answered by {came}")
+        told = [(event["device"], event["name"], event["tls"], event["type"]) for event in events(server)]
+        device = ("192.0.2.1:40000", "both")
+        wanted = [(*device, name, "command") for name in (None, None, "b\u00c3\u00b6b", None, None, None)]
+        require(told == [*wanted, (*device, None, "account")], f"the log has {told}")
+        ends(program, server)
+
+
+def a_packet_without_the_flag(program):
+    """It is answered by its type's ERROR, in clear, and the connection is closed, single or not."""
+    with serving(program) as server:
+        for flag, wanted in ((CLOSING, IN_CLEAR), (KEPT, KEPT_IN_CLEAR)):
+            with called(server, line("192.0.2.1")) as device:
+                wanted = clear(BAD_BODY, wanted)
+                came = answer(device, clear(ASK, flag) + clear(ASK), len(wanted) + 1)
+                require(came == wanted, f"it is answered by {came}")
+        told = [(event["type"], event["why"]) for event in events(server)]
+        require(told == [("refused", "bad body")] * 2, f"the log has {told}")
+        ends(program, server)
+
+
+def the_port_beside_it(program):
+    """A device is served there under its key. A packet in clear is refused at the port, and one
+    under a key at the proxy's socket."""
+    with serving(program) as server:
+        with connect(server) as device:
+            asked = is_answered(device, ASK, PERMITTED, key=KEY, flag=CLOSING)
+            require(asked, "the device isn't answered at the port")
+        with connect(server) as device:
+            device.sendall(clear(ASK))
+            require(is_closed(device, SOON), "a packet in clear is taken at the port")
+        require(asks(server, line("127.0.0.1")), "the device isn't answered by the proxy")
+        told = [(event["name"], "tls" in event, event.get("why")) for event in events(server)]
+        wanted = [("both", False, None), ("both", False, "bad header"), ("both", True, None)]
+        require(told == wanted, f"the log has {told}")
+        ends(program, server)
+
+
+def a_proxy_alone(program):
+    """Without a port the server listens at the socket alone, and says so."""
+    with serving(program, has_port=False) as server:
+        require(asks(server, line("192.0.2.2")), "a device isn't answered")
+        told = typed(program, server, "status")
+        for name in ("no_key", "no_tls", "other_certificate", "bad_proxy_header"):
+            require(f'{{why="{name}"}} 0\n' in told, f"it tells {told}")
+        ends(program, server)
+
+
+def certificates(program):
+    """A device that has a certificate of its own comes with no other one."""
+    other = "tacd: {}: the device has a certificate of another name, its connection is closed\n"
+    with serving(program) as server:
+        for address in ("192.0.2.3", "2001:db8::7"):
+            require(asks(server, header(address, b"core-1.example")), f"{address} isn't answered")
+        for head in (
+            header("192.0.2.3", b"core-1.exampl"),
+            header("192.0.2.3", b"CORE-1.example"),
+            header("192.0.2.3"),
+            header("192.0.2.3", b"core-1.example", verify=1),
+            line("192.0.2.3"),
+        ):
+            with called(server, head) as device:
+                require(is_closed(device, SOON), f"{head} is served")
+        told = events(server)
+        require([event["tls"] for event in told[:2]] == ["core-1.example"] * 2, f"it has {told}")
+        require(told[1]["device"] == "[2001:db8::7]:40000", f"it has {told}")
+        require(refused(server)[0] == ("core", "other certificate"), f"it has {told}")
+        require(told[2]["tls"] == "core-1.exampl", f"it has {told}")
+        told = typed(program, server, "status")
+        require('{why="other_certificate"} 5\n' in told, f"it tells {told}")
+        ends(program, server, other.format("192.0.2.3"))
+
+
+def each_device_its_own_way(program):
+    """One that has a key alone isn't served by the proxy, nor one with a certificate alone at the
+    port; nor is one that isn't listed."""
+    no_tls = "tacd: {}: the device may not come by a proxy, its connection is closed\n"
+    no_key = "tacd: {}: the device has no key, its connection is closed\n"
+    unknown = "tacd: {}: unknown device, its connection is closed\n"
+    for source, head, why, name, complaint in (
+        (None, line("192.0.2.4"), "no tls", "keyed", no_tls.format("192.0.2.4")),
+        ("127.0.0.5", None, "no key", "inside", no_key.format("127.0.0.5")),
+        (None, line("192.0.2.5"), "unknown device", None, unknown.format("192.0.2.5")),
+    ):
+        with serving(program) as server:
+            with called(server, head) if head else connect(server, source) as device:
+                require(is_closed(device, SOON), f"{why}: it is served")
+            require(refused(server) == [(name, why)], f"the log has {events(server)}")
+            counted = f'{{why="{why.replace(" ", "_")}"}} 1\n'
+            told = typed(program, server, "status")
+            require(counted in told, f"it tells {told}")
+            ends(program, server, complaint)
+
+
+def headers_in_pieces(program):
+    """What comes after a header is served, wherever it is cut. The one worker serves others."""
+    with serving(program, "--workers", "1") as server:
+        for head in (line("192.0.2.1"), header("192.0.2.1", b"x" * 64)):
+            wanted = clear(PERMITTED, KEPT_IN_CLEAR)
+            with called(server) as device:
+                for byte in head[:-1]:
+                    device.sendall(bytes([byte]))
+                    time.sleep(0.001)
+                require(asks(server, line("192.0.2.2")), "another isn't answered")
+                sent = head[-1:] + clear(ASK, KEPT_IN_CLEAR) * 2
+                came = answer(device, sent, 2 * len(wanted))
+                require(came == 2 * wanted, f"in pieces it is answered by {came}")
+            with called(server, head + clear(ASK, KEPT_IN_CLEAR)[:20]) as device:
+                came = answer(device, clear(ASK, KEPT_IN_CLEAR)[20:], len(wanted))
+                require(came == wanted, f"in two pieces it is answered by {came}")
+        ends(program, server)
+
+
+def no_headers(program):
+    """What can't become a header is closed as soon as that is seen, and one that is cut off; one
+    that isn't whole in ten seconds is closed then. Others are served meanwhile."""
+    longest = header("192.0.2.1", b"core", more=vector(4, bytes(490)))
+    require(len(longest) == 536, f"the longest header has {len(longest)} bytes")
+    with serving(program) as server, called(server, b"PROXY TCP4 192.0.2.1 ") as slow:
+        began = time.monotonic()
+        require(asks(server, longest), "the longest header isn't taken")
+        for head in (
+            clear(ASK),
+            b"PROXY TCP5",
+            b"PROXY TCP4 192.0.2.1 198.51.100.1 40000 65536\r\n",
+            b"PROXY " + b"x" * 102,
+            header("192.0.2.1", b"core", more=vector(4, bytes(491))),
+            header("192.0.2.1", b"core", more=b"\x04\x00"),
+            header("192.0.2.1", command=0x31),
+        ):
+            with called(server, head) as device:
+                require(is_closed(device, SOON), f"{head} is taken")
+        with called(server, b"PROXY TCP4") as device:
+            device.shutdown(socket.SHUT_WR)
+            require(is_closed(device, SOON), "one that is cut off is kept")
+        require(is_closed(slow, 20), "a header that never ends is waited for")
+        require(9 < time.monotonic() - began < 15, "its time is another one")
+        told = [event for event in events(server) if "count" in event]
+        require(all(event["device"] == "proxy" for event in told), f"the log has {told}")
+        require(refused(server)[0] == (None, "bad proxy header"), f"the log has {told}")
+        told = typed(program, server, "status")
+        require('{why="bad_proxy_header"} 9\n' in told, f"it tells {told}")
+        ends(program, server, NO_HEADER)
+
+
+def nobody_called(program):
+    """A proxy that looks whether the server is up is neither counted nor told of."""
+    with serving(program) as server:
+        local = SIGNATURE + bytes.fromhex("20000000")
+        for head in (local, b"PROXY UNKNOWN\r\n", b"PROXY UNKNOWN a b c d\r\n"):
+            with called(server, head) as device:
+                require(is_closed(device, SOON), f"{head} is served")
+        with called(server) as device:
+            device.shutdown(socket.SHUT_WR)
+            require(is_closed(device, SOON), "one without a byte is kept")
+        require(events(server) == [], f"the log has {events(server)}")
+        told = typed(program, server, "status")
+        require("tacd_connections_accepted_total 0\n" in told, f"it tells {told}")
+        ends(program, server)
+
+
+def so_many_of_an_address(program):
+    """Connections count for the address of which the proxy told, once it did."""
+    with serving(program) as server, contextlib.ExitStack() as stack:
+        for _ in range(70):
+            stack.enter_context(called(server, b"PROXY TCP4 192.0.2.2 "))
+        for _ in range(2):
+            device = stack.enter_context(called(server, line("192.0.2.2")))
+            wanted = clear(PERMITTED, KEPT_IN_CLEAR)
+            came = answer(device, clear(ASK, KEPT_IN_CLEAR), len(wanted))
+            require(came == wanted, f"it is answered by {came}")
+        with called(server, line("192.0.2.2")) as device:
+            require(is_closed(device, SOON), "a third is served")
+        require(asks(server, line("192.0.2.1")), "another address isn't answered")
+        require(refused(server) == [("any", "too many connections")], f"it has {events(server)}")
+        ends(program, server)
+
+
+def the_socket(program):
+    """Its group may connect, and others may not. It stays, and the next server takes its place; what
+    is no socket is left alone, and so is one at which a server listens."""
+    with serving(program) as server:
+        require(asks(server, line("192.0.2.1")), "a device isn't answered")
+        path = pathlib.Path(server.folder.name, "proxy")
+        mode = path.stat().st_mode
+        require(stat.S_ISSOCK(mode) and stat.S_IMODE(mode) == 0o660, f"its mode is {mode:o}")
+        there = "tacd: {}: a server is there already\n"
+        with Server(program, key=("--devices", "devices"), proxy=path) as second:
+            second.ends(complained=there.format(path), status=4, is_listening=False)
+        require(asks(server, line("192.0.2.1")), "the first isn't there any more")
+        ends(program, server)
+        require(path.is_socket(), "its file is gone")
+        with Server(program, key=("--devices", "devices"), devices=DEVICES, proxy=path) as second:
+            with socket.socket(socket.AF_UNIX) as device:
+                until = time.monotonic() + LONGEST_WAIT
+                while device.connect_ex(str(path)):
+                    require(time.monotonic() < until, "nobody listens again")
+                    time.sleep(0.005)
+                wanted = clear(PERMITTED)
+                came = answer(device, line("192.0.2.1") + clear(ASK), len(wanted))
+                require(came == wanted, f"the next is answered by {came}")
+            second.quits()
+        path.unlink()
+        path.write_text("")
+        no_socket = f"tacd: {path}: it is no socket\n"
+        with Server(program, key=("--devices", "devices"), proxy=path) as third:
+            third.ends(complained=no_socket, status=4, is_listening=False)
