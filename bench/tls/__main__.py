@@ -3,26 +3,29 @@
     python3 bench/tls [--program FILE]
 
 FILE is the program to try; without it ./tacd builds one. Each check is printed with what was found,
-and with WRONG where that isn't right. Then the status is 1. It takes two minutes. The bounds are those
-of a machine that does nothing else.
+and with WRONG where that isn't right. Then the status is 1. It takes two minutes. The bounds are
+those of a machine that does nothing else.
 
 The proxies run by the files of examples/tls, with other ports and folders in them; docs/TLS.md has
-these files to the line, and the certificates are made by its commands. Run by root, the server is the
-user nobody here, the proxies are users of their own, the folder of the socket is made by systemd-tmpfiles,
-and haproxy is chrooted, with that folder shown to it as docs/TLS.md says. Else all are one user.
+these files to the line, and the certificates are made by its commands. Run by root, the server is
+the user nobody here, the proxies are users of their own, the folder of the socket is made by
+systemd-tmpfiles, and haproxy is chrooted, with that folder shown to it as docs/TLS.md says. Else
+all are one user.
 
 By each of the two proxies:
-- TLS 1.2, no certificate, and one of another CA, one that has expired, is revoked, or is a server's are
-  refused in the handshake, and the server isn't called. `openssl s_client` and Python's ssl are answered.
-- Sessions of all kinds have the replies that the same ones have at the port under a key, byte by byte,
-  but in clear and with the flag; and the lines of the log are the same, but for `tls`.
+- TLS 1.2, no certificate, and one of another CA, one that has expired, is revoked, or is a server's
+  are refused in the handshake, and the server isn't called. `openssl s_client` and Python's ssl are
+  answered.
+- Sessions of all kinds have the replies that the same ones have at the port under a key, byte by
+  byte, but in clear and with the flag; and the lines of the log are the same, but for `tls`.
 - A packet without the flag is told ERROR, with the flag, and its connection closes.
 - A device without `tls`, one with another's certificate, one that isn't listed, and at the port one
   without a key are closed, and told as what they are, by their own addresses.
 - 1,000 connections at once, one more than there may be, a silent one, and a move from a key to TLS.
-- The server ends and starts again, and the proxy reaches the next one. Checks of haproxy aren't counted.
+- The server ends and starts again, and the proxy reaches the next one. Checks of haproxy aren't
+  counted.
 At the socket without a proxy:
-- Headers that are right, wrong, too long, cut anywhere, or never whole; names of all kinds; and memory.
+- Headers that are right, wrong, too long, cut anywhere, or never whole; names of all kinds; memory.
 - The socket's mode and group, who may connect, and starts that can't have it.
 After all of this each number of `status` is what was done.
 
@@ -111,7 +114,8 @@ def try_directly(server):
     direct.try_told(server)
     direct.try_starts(server)
     server.quit()
-    direct.try_without_port(Server(server.program, server.places, through.devices(), has_port=False))
+    other = Server(server.program, server.places, through.devices(), has_port=False)
+    direct.try_without_port(other)
 
 
 def main():

@@ -11,7 +11,7 @@ import subprocess
 import time
 
 import headers
-from headers import LOCAL, PROXY, SHOWN, TCP4, TCP6, UDP4, UNIX, UNSPEC, USED, binary, line, vector
+from headers import LOCAL, PROXY, TCP4, TCP6, UDP4, UNIX, UNSPEC, USED, binary, line, vector
 from judging import holds, judge, settles
 from packets import CLOSED, KEPT, SHOW, SINGLE, Clear, Padded, ends, is_permitted, packet, reply
 from places import IS_ROOT, STRANGER, USER, as_user
@@ -261,7 +261,7 @@ def try_memory(server):
         return answered(server, binary(CORE_1, TELLS_NAME)) == SERVED
 
     def by_nobody():
-        return answered(server, b"PROXY TCP4 ") == CLOSED
+        return answered(server, b"x") == CLOSED
 
     grew = {}
     for what, call in ("port", by_port), ("socket", by_socket), ("bad headers", by_nobody):
@@ -280,18 +280,18 @@ def try_told(server):
     """All that were refused are counted in the log, with a line a second at most."""
     time.sleep(1.1)
     begun = time.monotonic()
-    count = sum(line.get("count", 0) for line in refused(server, BAD))
+    count = counted(server, BAD)
     for _ in range(300):
         answered(server, b"x")
     time.sleep(1.1)
     answered(server, b"x")
     seconds = time.monotonic() - begun
-    lines = refused(server, BAD)
-    told = sum(line.get("count", 0) for line in lines) - count
+    wanted = server.number('connections_refused_total{why="bad_proxy_header"}')
+    found = settles(lambda: counted(server, BAD), wanted)
+    judge("bad headers that the log counts", found, wanted)
     # Those before are counted by the first of these lines.
-    holds("bad headers that the log counts", told >= 301, f"{told} in {seconds:.1f} s")
-    found = server.number('connections_refused_total{why="bad_proxy_header"}')
-    judge("of all", sum(line.get("count", 0) for line in lines), found)
+    holds("of these in this time", found - count >= 301, f"{found - count} in {seconds:.1f} s")
+    lines = refused(server, BAD)
     members = {(line["device"], "name" in line, "tls" in line) for line in lines}
     judge("whom they name", members, {("proxy", False, False)})
     times = [datetime.datetime.fromisoformat(line["time"]).timestamp() for line in lines]
@@ -301,6 +301,10 @@ def try_told(server):
 
 def refused(server, why):
     return [line for line in server.lines() if line.get("why") == why]
+
+
+def counted(server, why):
+    return sum(line["count"] for line in refused(server, why))
 
 
 # ---- the socket's file

@@ -35,7 +35,9 @@ def addresses(source, target=None):
 
 
 def raw(command, kind, rest, size=None):
-    return SIGNATURE + struct.pack("!BBH", command, kind, len(rest) if size is None else size) + rest
+    """One with these bytes behind the first sixteen, which say their number or another."""
+    size = len(rest) if size is None else size
+    return SIGNATURE + struct.pack("!BBH", command, kind, size) + rest
 
 
 def binary(source, rest=b"", size=None):

@@ -169,14 +169,14 @@ def try_openssl(trial):
 def try_early_data(trial):
     """A session that is taken up again has its certificate still, and brings no early data."""
     context = trial.authority.context(trial.pairs[DEVICE])
-    with trial.device(CORE_1 if trial.proxy.tells_names else ANY, context=context) as stream:
+    source = CORE_1 if trial.proxy.tells_names else ANY
+    with trial.device(source, context=context) as stream:
         is_permitted(stream, flags=SINGLE)
         session = stream.session
-    source = CORE_1 if trial.proxy.tells_names else ANY
     count = len(trial.server.lines())
     with trial.device(source, context=context, session=session) as stream:
-        reused = stream.session_reused
-        trial.judge("a session that is taken up again", (reused, is_permitted(stream)), (True, True))
+        found = stream.session_reused, is_permitted(stream)
+        trial.judge("a session that is taken up again", found, (True, True))
     lines = since(trial.server.lines, count)
     found = lines[0].get("tls", "none") if lines else "no line"
     trial.judge("its name", found, trial.common_name(DEVICE))
@@ -402,7 +402,9 @@ def try_unflagged(trial):
 def try_addresses(trial):
     """The log has each device's own address and port."""
     count, wanted = len(trial.server.lines()), []
-    for source, host in ((ANY, "127.0.0.1"), ("::1", "::1")) if has_ipv6() else ((ANY, "127.0.0.1"),):
+    for source, host in (ANY, "127.0.0.1"), ("::1", "::1"):
+        if source == "::1" and not has_ipv6():
+            continue
         with trial.device(source, host=host) as stream:
             wanted.append((trial.spelled(stream.getsockname()), "any"))
             is_permitted(stream)
@@ -472,8 +474,9 @@ def try_silence(trial):
 
 def jq(trial, number):
     """What a line of jq on the page prints of the log."""
-    block = [block for word, block in documents.blocks(documents.PAGE) if block.lstrip()[:2] == "jq"]
-    words = block[number].replace("/var/log/tacd/audit.log", str(trial.server.places.log))
+    shown = [block for _, block in documents.blocks(documents.PAGE)]
+    asking = [block for block in shown if block.lstrip().startswith("jq ")]
+    words = asking[number].replace("/var/log/tacd/audit.log", str(trial.server.places.log))
     return subprocess.run(["sh", "-c", words], capture_output=True, text=True, check=True).stdout
 
 
@@ -539,13 +542,14 @@ def try_restart(trial):
             stop()
             server.process.wait(10)
             trial.judge("its connection", ends(stream), CLOSED)
-        holds(f"{trial.name}, the socket's file", server.places.socket.is_socket(), "is there still")
+        trial.judge("the socket's file is there still", server.places.socket.is_socket(), True)
         begun = time.monotonic()
         trial.judge("a device meanwhile", turned_away(trial, ANY, DEVICE)[0], CLOSED)
         seconds = time.monotonic() - begun
         holds(f"{trial.name}, that", seconds < 5, f"took {seconds:.1f} s")
         told = " SC " if trial.proxy.tells_names else "s_connect:"
-        trial.judge(f"its log has '{told}'", settles(lambda: told in trial.proxy.says(), True), True)
+        found = settles(lambda: told in trial.proxy.says(), True)
+        trial.judge(f"its log has '{told}'", found, True)
         server.start()
         with trial.device() as stream:
             trial.judge("after the next start", is_permitted(stream), True)
