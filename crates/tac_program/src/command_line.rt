@@ -232,7 +232,8 @@ fn with_limits<'a>(alloc: Global, command: Command<'a>) -> Result<Command<'a>, A
 fn proxy<'a>(alloc: Global) -> Result<Arg<'a>, AllocError> {
     text(alloc, PROXY, "PATH", PROXY_HELP)
         .requires_arg(DEVICES_FILE)?
-        .conflicts_with_all(&[KEY, KEY_FILE])
+        .conflicts_with(KEY)?
+        .conflicts_with(KEY_FILE)
 }
 
 // The options of a server, in the order of its help.
