@@ -1,237 +1,210 @@
-//! What stands between braces: services, commands and devices.
+//! What stands between braces.
 
-use crate::configuration::{
-    Attribute, Command, Extra, Host, Method, Password, Purpose, Rule, Service, Setting,
-};
-use crate::fault::{FileFault, Mistake};
-use crate::reader::{Reader, Token, verdict_of};
-use basics::Bytes;
+use crate::configuration::{Method, Said, Setting};
+use crate::fault::Mistake;
+use crate::keywords::{ACCOUNTINGS, DEFAULTS, Line, METHODS, Passed};
+use crate::reader::{EMPTY, Reader, Token};
 
-// One more attribute of a service, whose name has been taken.
-fn read_attribute(
-    reader: &mut Reader<'_>,
-    is_optional: bool,
-    name: Bytes,
-) -> Result<Attribute, FileFault> {
-    let line = reader.line();
-    let value = reader.take_value()?;
-    Ok(Attribute {
-        line,
-        is_optional,
-        name,
-        value,
-    })
-}
-
-// What a word of a service begins: an attribute, or `default attribute`, which gives none.
-fn read_given(reader: &mut Reader<'_>, word: Bytes) -> Result<Option<Attribute>, FileFault> {
-    match word.as_slice() {
-        b"default" => {
-            reader.take_keyword(b"attribute")?;
-            reader.take_equals()?;
-            reader.take_verdict()?;
-            Ok(None)
-        }
-        b"optional" => {
-            let name = reader.take_text()?;
-            let attribute = read_attribute(reader, true, name)?;
-            Ok(Some(attribute))
-        }
-        _ => {
-            let attribute = read_attribute(reader, false, word)?;
-            Ok(Some(attribute))
-        }
+// Whether it is this word without quotes.
+fn is_word(token: Token<'_>, wanted: &[u8]) -> bool {
+    match token {
+        Token::Word(word) => word == wanted,
+        _ => false,
     }
 }
 
-// The attributes of a service, up to its end.
-fn read_attributes(reader: &mut Reader<'_>) -> Result<Vec<Attribute>, FileFault> {
-    let mut attributes = Vec::new(reader.alloc());
-    'attributes: for _ in 0..reader.left() {
-        match reader.take()? {
-            Token::Close => return Ok(attributes),
-            Token::Word(word) => {
-                if let Some(attribute) = read_given(reader, word)? {
-                    attributes.push(attribute)?;
-                }
+impl<'a> Reader<'a> {
+    // `NAME = VALUE`, or `optional NAME = VALUE`, within a service, which begins by this token.
+    fn attribute(&mut self, first: Token<'a>) {
+        let is_optional = is_word(first, b"optional");
+        let name = if is_optional { self.take() } else { first };
+        self.want_word(name);
+        let line = self.line;
+        let value = self.value();
+        let said = if is_optional {
+            Said::Optional
+        } else {
+            Said::Attribute
+        };
+        self.add(line, said, name, value);
+    }
+
+    // What a service gives, up to its end. `default attribute = VERDICT` is nothing.
+    fn attributes(&mut self) {
+        'attributes: for _ in 0..self.left() {
+            let Some(token) = self.inner() else {
+                return;
+            };
+            if is_word(token, b"default") {
+                self.this(b"attribute");
+                self.verdict();
+            } else {
+                self.attribute(token);
             }
-            Token::Quoted(name) => attributes.push(read_attribute(reader, false, name)?)?,
-            Token::End => break,
-            Token::Equals | Token::Open => return Err(reader.wrong(Mistake::NoWord)),
         }
     }
-    Err(reader.wrong(Mistake::OpenBrace))
-}
 
-// The protocol of a service, if it has one, and its `{`.
-fn read_protocol(reader: &mut Reader<'_>) -> Result<Option<Bytes>, FileFault> {
-    match reader.take()? {
-        Token::Open => Ok(None),
-        Token::Word(word) => {
-            if word.as_slice() != b"protocol".as_slice() {
-                return Err(reader.wrong(Mistake::NoOpen));
+    // A service, whose keyword has been taken.
+    fn service(&mut self, line: usize) {
+        let name = self.value();
+        let token = self.take();
+        if is_word(token, b"protocol") {
+            let protocol = self.value();
+            self.add(line, Said::ServiceFor, name, protocol);
+            self.sign(b'{', Mistake::NoOpen);
+        } else {
+            self.add(line, Said::Service, name, EMPTY);
+            self.want_sign(token, b'{', Mistake::NoOpen);
+        }
+        self.attributes();
+    }
+
+    // A command, whose keyword has been taken.
+    fn command(&mut self, line: usize) {
+        let name = self.value();
+        self.add(line, Said::Command, name, EMPTY);
+        self.sign(b'{', Mistake::NoOpen);
+        'rules: for _ in 0..self.left() {
+            let Some(token) = self.inner() else {
+                return;
+            };
+            let verdict = self.verdict_of(token);
+            let line = self.line;
+            let expression = self.word();
+            self.add(line, Said::Rule(verdict), token, expression);
+        }
+    }
+
+    // Passes over a list of addresses, whose keyword has been taken.
+    fn list(&mut self) {
+        self.value();
+        self.sign(b'{', Mistake::NoOpen);
+        'entries: for _ in 0..self.left() {
+            let Some(token) = self.inner() else {
+                return;
+            };
+            self.verdict_of(token);
+            self.value();
+        }
+    }
+
+    // How a password is kept, and what of it is written. The method may stand between quotes.
+    fn password(&mut self) -> (Method, Token<'a>) {
+        let method = match self.value() {
+            Token::Quoted(word) => Token::Word(word),
+            token => token,
+        };
+        match self.meaning(method, &METHODS, Mistake::NoMethod) {
+            None | Some(Method::Other) => (Method::Other, EMPTY),
+            Some(method) => (method, self.word()),
+        }
+    }
+
+    // `= WORD`, of which there is one at most.
+    fn once(&mut self, said: Said, keyword: Token<'a>) {
+        if let Some(first) = self.once {
+            return self.refuse(Mistake::Repeated(first));
+        }
+        let value = self.value();
+        let line = self.line;
+        self.once = Some(line);
+        self.add(line, said, keyword, value);
+    }
+
+    // `service = VERDICT`, of which there is one at most.
+    fn default(&mut self, line: usize, keyword: Token<'a>) {
+        if let Some(first) = self.default {
+            return self.refuse(Mistake::Repeated(first));
+        }
+        self.default = Some(line);
+        self.this(b"service");
+        let verdict = self.verdict();
+        self.add(line, Said::Default(verdict), keyword, Token::Word(b"service"));
+    }
+
+    // `syslog`, or `file = WORD`.
+    fn accounting(&mut self, word: Token<'a>) -> Setting {
+        match self.meaning(word, &ACCOUNTINGS, Mistake::NoSetting) {
+            Some(Setting::Accounting) => {
+                self.value();
+                Setting::Accounting
             }
-            let protocol = reader.take_value()?;
-            reader.take_open()?;
-            Ok(Some(protocol))
-        }
-        _ => Err(reader.wrong(Mistake::NoOpen)),
-    }
-}
-
-/// A service, whose keyword has been taken.
-pub(crate) fn read_service(reader: &mut Reader<'_>) -> Result<Service, FileFault> {
-    let line = reader.line();
-    let name = reader.take_value()?;
-    let protocol = read_protocol(reader)?;
-    let attributes = read_attributes(reader)?;
-    Ok(Service {
-        line,
-        name,
-        protocol,
-        attributes,
-    })
-}
-
-// A rule, whose verdict stands here.
-fn read_rule(reader: &mut Reader<'_>, word: &[u8]) -> Result<Rule, FileFault> {
-    let line = reader.line();
-    let Some(verdict) = verdict_of(word) else {
-        return Err(reader.wrong(Mistake::NoVerdict));
-    };
-    let expression = reader.take_text()?;
-    Ok(Rule {
-        line,
-        verdict,
-        expression,
-    })
-}
-
-// The rules of a command, up to its end.
-fn read_rules(reader: &mut Reader<'_>) -> Result<Vec<Rule>, FileFault> {
-    let mut rules = Vec::new(reader.alloc());
-    'rules: for _ in 0..reader.left() {
-        match reader.take()? {
-            Token::Close => return Ok(rules),
-            Token::Word(word) => rules.push(read_rule(reader, word.as_slice())?)?,
-            Token::End => break,
-            _ => return Err(reader.wrong(Mistake::NoVerdict)),
+            _ => Setting::Syslog,
         }
     }
-    Err(reader.wrong(Mistake::OpenBrace))
-}
 
-/// A command, whose keyword has been taken.
-pub(crate) fn read_command(reader: &mut Reader<'_>) -> Result<Command, FileFault> {
-    let line = reader.line();
-    let name = reader.take_value()?;
-    reader.take_open()?;
-    let rules = read_rules(reader)?;
-    Ok(Command { line, name, rules })
-}
-
-fn method_of(word: &[u8]) -> Option<Method> {
-    match word {
-        b"cleartext" => Some(Method::Cleartext),
-        b"des" => Some(Method::Des),
-        b"file" => Some(Method::File),
-        b"skey" => Some(Method::Skey),
-        b"nopassword" => Some(Method::NoPassword),
-        b"PAM" | b"pam" => Some(Method::Pam),
-        _ => None,
-    }
-}
-
-/// A password for this, whose keyword has been taken.
-pub(crate) fn read_password(
-    reader: &mut Reader<'_>,
-    purpose: Purpose,
-) -> Result<Password, FileFault> {
-    let line = reader.line();
-    let word = reader.take_value()?;
-    let Some(method) = method_of(word.as_slice()) else {
-        return Err(reader.wrong(Mistake::NoMethod));
-    };
-    let text = match method {
-        Method::Cleartext | Method::Des | Method::File => reader.take_text()?,
-        Method::Skey | Method::NoPassword | Method::Pam => Bytes::new(reader.alloc()),
-    };
-    Ok(Password {
-        line,
-        purpose,
-        method,
-        text,
-    })
-}
-
-// What a word of a device's settings begins.
-fn read_host_setting(
-    reader: &mut Reader<'_>,
-    host: &mut Host,
-    extras: &mut Vec<Extra>,
-    word: &[u8],
-) -> Result<(), FileFault> {
-    let line = reader.line();
-    let setting = match word {
-        b"key" => return reader.take_once(&mut host.key),
-        b"prompt" => {
-            reader.take_value()?;
-            Setting::HostPrompt
+    // `authorization = VERDICT`, or `authentication = file WORD`.
+    fn file_default(&mut self, word: Token<'a>) -> Setting {
+        if !matches!(word, Token::Word(_)) {
+            self.refuse(Mistake::NoSetting);
         }
-        b"type" => {
-            reader.take_value()?;
-            Setting::HostType
-        }
-        b"enable" => {
-            read_password(reader, Purpose::Enable)?;
-            Setting::HostEnable
-        }
-        _ => return Err(reader.wrong(Mistake::NoSetting)),
-    };
-    extras.push(Extra { line, setting })?;
-    Ok(())
-}
-
-/// A device of this name, which has been taken.
-pub(crate) fn read_host(
-    reader: &mut Reader<'_>,
-    line: usize,
-    name: Bytes,
-    extras: &mut Vec<Extra>,
-) -> Result<Host, FileFault> {
-    reader.take_open()?;
-    let mut host = Host {
-        line,
-        name,
-        key: None,
-    };
-    'settings: for _ in 0..reader.left() {
-        match reader.take()? {
-            Token::Close => return Ok(host),
-            Token::Word(word) => read_host_setting(reader, &mut host, extras, word.as_slice())?,
-            Token::End => break,
-            _ => return Err(reader.wrong(Mistake::NoSetting)),
-        }
-    }
-    Err(reader.wrong(Mistake::OpenBrace))
-}
-
-/// Passes over a list of addresses, whose keyword has been taken.
-pub(crate) fn read_access_list(reader: &mut Reader<'_>) -> Result<(), FileFault> {
-    reader.take_value()?;
-    reader.take_open()?;
-    'entries: for _ in 0..reader.left() {
-        match reader.take()? {
-            Token::Close => return Ok(()),
-            Token::Word(word) => {
-                if verdict_of(word.as_slice()).is_none() {
-                    return Err(reader.wrong(Mistake::NoVerdict));
-                }
-                reader.take_value()?;
+        self.sign(b'=', Mistake::NoEquals);
+        match self.meaning(word, &DEFAULTS, Mistake::NoSetting) {
+            Some(Setting::Authentication) => {
+                self.this(b"file");
+                self.word();
+                Setting::Authentication
             }
-            Token::End => break,
-            _ => return Err(reader.wrong(Mistake::NoVerdict)),
+            _ => {
+                let token = self.take();
+                self.verdict_of(token);
+                Setting::Authorization
+            }
         }
     }
-    Err(reader.wrong(Mistake::OpenBrace))
+
+    // What has no equal in a policy, and the second word that sets it, if there is one.
+    fn pass(&mut self, passed: Passed) -> (Setting, Token<'a>) {
+        match passed {
+            Passed::Value(setting) => {
+                self.value();
+                (setting, EMPTY)
+            }
+            Passed::Authorization => {
+                self.this(b"authorization");
+                self.word();
+                (Setting::Other, Token::Word(b"authorization"))
+            }
+            Passed::Password => {
+                self.password();
+                (Setting::HostEnable, EMPTY)
+            }
+            Passed::AccessList => {
+                self.list();
+                (Setting::AccessList, EMPTY)
+            }
+            Passed::Accounting => {
+                let word = self.take();
+                (self.accounting(word), word)
+            }
+            Passed::Default => {
+                let word = self.take();
+                (self.file_default(word), word)
+            }
+        }
+    }
+
+    /// Reads on what a keyword begins, but for what has braces of its own outside of all others.
+    pub(crate) fn read_line(&mut self, keyword: Token<'a>, begun: Line) {
+        let line = self.line;
+        match begun {
+            Line::Once(said) => self.once(said, keyword),
+            Line::Password(purpose) => {
+                let (method, text) = self.password();
+                self.add(line, Said::Password(purpose, method), keyword, text);
+            }
+            Line::Default => self.default(line, keyword),
+            Line::Service => self.service(line),
+            Line::Command => self.command(line),
+            Line::Name => {
+                self.value();
+            }
+            Line::Include => self.refuse(Mistake::Include),
+            Line::Passed(passed) => {
+                let (setting, word) = self.pass(passed);
+                self.add(line, Said::Other(setting), keyword, word);
+            }
+            Line::Begins(_) => {}
+        }
+    }
 }

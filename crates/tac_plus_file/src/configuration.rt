@@ -1,169 +1,132 @@
 //! What a file says, in its order.
 
 use basics::Bytes;
-use pol_names::{Kind, Verdict};
-
-/// A word and its line.
-#[derive(Drop)]
-pub struct Word {
-    pub line: usize,
-    pub text: Bytes,
-}
-
-/// What is read and has no equal in a policy.
-#[derive(Clone, Copy, Debug, PartialEq, Eq)]
-pub enum Setting {
-    AccessList,
-    AccountingFile,
-    AccountingSyslog,
-    AfterAuthorization,
-    BeforeAuthorization,
-    DefaultAuthentication,
-    DefaultAuthorization,
-    EnableAccessList,
-    Expires,
-    HostEnable,
-    HostPrompt,
-    HostType,
-    Logging,
-    MaxSessions,
-    Message,
-}
-
-/// Where a setting without an equal stands.
-#[derive(Clone, Copy, Debug, PartialEq, Eq)]
-pub struct Extra {
-    pub line: usize,
-    pub setting: Setting,
-}
+use pol_names::Verdict;
+use std::collections::BTreeMap;
 
 /// What a password is for.
-#[derive(Clone, Copy, Debug, PartialEq, Eq)]
+#[derive(Clone, Copy, PartialEq, Eq)]
 pub enum Purpose {
     Login,
     Enable,
     Pap,
     Chap,
     MsChap,
-    Arap,
-    OutboundPap,
     /// All of these that have none of their own.
     Global,
+    /// AppleTalk's remote access, or PAP the other way: nothing that there is here.
+    Other,
 }
 
 /// How a password is kept.
-#[derive(Clone, Copy, Debug, PartialEq, Eq)]
+#[derive(Clone, Copy, PartialEq, Eq)]
 pub enum Method {
-    /// The text is the password.
+    /// The value is the password.
     Cleartext,
-    /// The text is what crypt(3) makes of it.
+    /// The value is what crypt(3) makes of it.
     Des,
-    /// The text is the path of a file like /etc/passwd.
+    /// The value is the path of a file like /etc/passwd.
     File,
-    /// There is no text with these.
-    Skey,
-    NoPassword,
-    Pam,
+    /// There is no value.
+    Other,
 }
 
-/// A password of a user or a group.
-#[derive(Drop)]
-pub struct Password {
-    pub line: usize,
-    pub purpose: Purpose,
-    pub method: Method,
-    pub text: Bytes,
+/// What has no equal in a policy, by what there is in its place.
+#[derive(Clone, Copy)]
+pub enum Setting {
+    AccessList,
+    Accounting,
+    Syslog,
+    Authentication,
+    Authorization,
+    HostEnable,
+    Other,
 }
 
-/// `NAME = VALUE` within a service.
-#[derive(Drop)]
-pub struct Attribute {
+/// What an entry says.
+#[derive(Clone, Copy)]
+pub enum Said {
+    /// A user, a group or a device of this name. What stands between its braces follows.
+    User,
+    Group,
+    Host,
+    /// The value is the key of the file or, in a device's braces, the device's.
+    Key,
+    /// The value is the name of the group that the subject is a member of.
+    Member,
+    /// What the subject may do that is listed nowhere.
+    Default(Verdict),
+    /// The value is a password, or where it is kept.
+    Password(Purpose, Method),
+    /// A service of this name; in the second case for the protocol that is the value. What it gives
+    /// follows.
+    Service,
+    ServiceFor,
+    /// What a service gives: a name and a value.
+    Attribute,
+    Optional,
+    /// A command of this name. Its rules follow.
+    Command,
+    /// A rule of a command: its value is an expression.
+    Rule(Verdict),
+    /// What has no equal in a policy: the name and the value are the words that set it.
+    Other(Setting),
+}
+
+/// What is said at a line.
+pub struct Entry {
     pub line: usize,
-    pub is_optional: bool,
+    pub said: Said,
+    /// The name of what it is about, or the word that says it.
     pub name: Bytes,
     pub value: Bytes,
 }
 
-/// `service = NAME { .. }`, or `service = NAME protocol = PROTOCOL { .. }`.
-#[derive(Drop)]
-pub struct Service {
-    pub line: usize,
-    pub name: Bytes,
-    pub protocol: Option<Bytes>,
-    pub attributes: Vec<Attribute>,
-}
-
-/// `permit EXPRESSION` or `deny EXPRESSION` within a command.
-#[derive(Drop)]
-pub struct Rule {
-    pub line: usize,
-    pub verdict: Verdict,
-    pub expression: Bytes,
-}
-
-/// `cmd = NAME { .. }`.
-#[derive(Drop)]
-pub struct Command {
-    pub line: usize,
-    pub name: Bytes,
-    pub rules: Vec<Rule>,
-}
-
-/// A user or a group.
-pub struct Subject {
-    pub line: usize,
-    pub kind: Kind,
-    pub name: Bytes,
-    /// The group that it is a member of.
-    pub parent: Option<Word>,
-    /// The `default service`, and its line.
-    pub default: Option<(usize, Verdict)>,
-    pub passwords: Vec<Password>,
-    pub services: Vec<Service>,
-    pub commands: Vec<Command>,
-}
-
 // By hand, so that a proof of an owner has one call at each exit, not a drop of each field.
-impl Drop for Subject {
+impl Drop for Entry {
     fn drop(self) {
-        let Subject {
+        let Entry {
             line: _,
-            kind: _,
+            said: _,
             name: _,
-            parent: _,
-            default: _,
-            passwords: _,
-            services: _,
-            commands: _,
+            value: _,
         } = self;
     }
 }
 
-/// A device with settings of its own.
-#[derive(Drop)]
-pub struct Host {
+/// The entries of a user, a group or a device: which of all these are, with the one that begins it.
+#[derive(Clone, Copy)]
+pub struct Block {
+    pub from: usize,
+    pub end: usize,
+    /// How many of its kind stand before it.
+    pub number: usize,
+}
+
+/// Names, and where they stand: at which line, and in which block.
+pub type Names = BTreeMap<Vec<u8>, Place>;
+
+#[derive(Clone, Copy)]
+pub struct Place {
     pub line: usize,
-    pub name: Bytes,
-    pub key: Option<Word>,
+    pub block: usize,
 }
 
 /// All that a file says.
 pub struct Configuration {
-    pub key: Option<Word>,
-    pub hosts: Vec<Host>,
-    pub subjects: Vec<Subject>,
-    /// What has no equal in a policy, wherever it stands.
-    pub extras: Vec<Extra>,
+    pub entries: Vec<Entry>,
+    pub blocks: Vec<Block>,
+    /// Where each group stands.
+    pub groups: Names,
 }
 
 // By hand, as above.
 impl Drop for Configuration {
     fn drop(self) {
         let Configuration {
-            key: _,
-            hosts: _,
-            subjects: _,
-            extras: _,
+            entries: _,
+            blocks: _,
+            groups: _,
         } = self;
     }
 }

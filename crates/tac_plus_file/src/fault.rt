@@ -1,10 +1,9 @@
 //! Why a file isn't one of tac_plus.
 
-use std::alloc::{AllocError, AllocFailed};
 use std::fmt;
 
 /// What is wrong at a line.
-#[derive(Clone, Copy, Debug, PartialEq, Eq)]
+#[derive(Clone, Copy)]
 pub enum Mistake {
     NoEquals,
     NoOpen,
@@ -20,43 +19,39 @@ pub enum Mistake {
     Repeated(usize),
 }
 
+impl Mistake {
+    fn text(self) -> &'static str {
+        match self {
+            Mistake::NoEquals => "an '=' is missing here",
+            Mistake::NoOpen => "a '{' is missing here",
+            Mistake::NoWord => "a word is missing here",
+            Mistake::NoVerdict => "'permit' or 'deny' is missing here",
+            Mistake::NoMethod => "this is no kind of password",
+            Mistake::NoSetting => "tac_plus F4.0.4 has no such setting here",
+            Mistake::OpenQuote => "this quotation mark is never closed",
+            Mistake::OpenBrace => "the file ends before its '}'",
+            Mistake::CarriageReturn => "a carriage return: lines are to end in LF alone",
+            Mistake::Include => {
+                "tac_plus F4.0.4 reads no other file: put them into one first"
+            }
+            Mistake::Repeated(_) => "this is there already, at line ",
+        }
+    }
+}
+
 impl fmt::Display for Mistake {
     fn fmt<W: fmt::Write>(&self, f: &mut fmt::Formatter<W>) -> fmt::Result {
+        let text = self.text();
         match self {
-            Mistake::NoEquals => f.write_str("an '=' is missing here"),
-            Mistake::NoOpen => f.write_str("a '{' is missing here"),
-            Mistake::NoWord => f.write_str("a word is missing here"),
-            Mistake::NoVerdict => f.write_str("'permit' or 'deny' is missing here"),
-            Mistake::NoMethod => f.write_str("this is no kind of password"),
-            Mistake::NoSetting => f.write_str("tac_plus F4.0.4 has no such setting here"),
-            Mistake::OpenQuote => f.write_str("this quotation mark is never closed"),
-            Mistake::OpenBrace => f.write_str("the file ends before its '}'"),
-            Mistake::CarriageReturn => f.write_str(
-                "a carriage return: lines are to end in LF alone",
-            ),
-            Mistake::Include => {
-                f.write_str("tac_plus F4.0.4 reads no other file: put them into one first")
-            }
-            Mistake::Repeated(line) => write!(f, "this is there already, at line {line}"),
+            Mistake::Repeated(line) => write!(f, "{text}{line}"),
+            _ => f.write_str(text),
         }
     }
 }
 
 /// Why nothing was read.
-#[derive(Clone, Copy, Debug, PartialEq, Eq)]
+#[derive(Clone, Copy)]
 pub enum FileFault {
     Wrong { line: usize, mistake: Mistake },
     Memory,
-}
-
-impl From<AllocError> for FileFault {
-    fn from(_error: AllocError) -> FileFault {
-        FileFault::Memory
-    }
-}
-
-impl<T: Drop> From<AllocFailed<T>> for FileFault {
-    fn from(_error: AllocFailed<T>) -> FileFault {
-        FileFault::Memory
-    }
 }

@@ -4,13 +4,12 @@
 mod blocks;
 mod configuration;
 mod fault;
+mod keywords;
 mod reader;
 mod reading;
-mod subject;
 
 pub use configuration::{
-    Attribute, Command, Configuration, Extra, Host, Method, Password, Purpose, Rule, Service,
-    Setting, Subject, Word,
+    Block, Configuration, Entry, Method, Names, Place, Purpose, Said, Setting,
 };
 pub use fault::{FileFault, Mistake};
 pub use reading::read_configuration;

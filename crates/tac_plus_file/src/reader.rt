@@ -1,57 +1,68 @@
 //! The words and signs of a file, one after another.
 
-use crate::configuration::Word;
+use crate::configuration::{Entry, Said};
 use crate::fault::{FileFault, Mistake};
+use crate::keywords::{Meaning, VERDICTS, find};
 use basics::Bytes;
-use memchr::memchr;
 use pol_names::Verdict;
-use std::alloc::{AllocError, Global};
+use std::alloc::Global;
 
 /// What stands next in a file.
-#[derive(Drop)]
-pub(crate) enum Token {
+#[derive(Clone, Copy)]
+pub(crate) enum Token<'a> {
     /// A word without quotes, which may be a keyword.
-    Word(Bytes),
-    /// What stands between quotes, which is no keyword.
-    Quoted(Bytes),
-    Equals,
-    Open,
-    Close,
-    /// The end of the file.
+    Word(&'a [u8]),
+    /// What stands between quotes, as it is written there. It is no keyword.
+    Quoted(&'a [u8]),
+    /// `=`, `{` or `}`.
+    Sign(u8),
+    /// The end of what is read.
     End,
 }
 
-/// A file from here on.
-#[derive(Drop)]
+/// Where there is no word.
+pub(crate) const EMPTY: Token<'static> = Token::Word(b"");
+
+/// A file from here on, and what it said so far. It is read up to its first fault.
 pub(crate) struct Reader<'a> {
-    alloc: Global,
+    pub(crate) alloc: Global,
     rest: &'a [u8],
     // the line of what comes next
-    line: usize,
-    // the line at which the last token began
-    at: usize,
+    next: usize,
+    /// The line at which the last token began.
+    pub(crate) line: usize,
+    pub(crate) entries: Vec<Entry>,
+    /// The lines of what may stand once between the present braces.
+    pub(crate) once: Option<usize>,
+    pub(crate) default: Option<usize>,
+    fault: Option<FileFault>,
 }
 
-// The text from its next end of a line on.
-fn from_line_end(text: &[u8]) -> &[u8] {
-    match memchr(b'\n', text) {
-        Some(at) => &text[at..],
-        None => &[],
+// By hand, so that a proof of an owner has one call at each exit, not a drop of each field.
+impl Drop for Reader<'_> {
+    fn drop(self) {
+        let Reader {
+            alloc: _,
+            rest: _,
+            next: _,
+            line: _,
+            entries: _,
+            once: _,
+            default: _,
+            fault: _,
+        } = self;
     }
 }
 
-// A word without quotes goes on to the next blank, `=` or end of a line: a `}`, a `#` or a quotation
-// mark within it belongs to it.
-fn ends_word(byte: u8) -> bool {
-    matches!(byte, b' ' | b'\t' | b'=' | b'\n')
-}
-
-// The first word of a text, and what comes after it.
+// A word without quotes, and what comes after it. It goes on to the next blank, `=` or end of a
+// line: a `}`, a `#` or a quotation mark within it belongs to it.
 fn split_word(text: &[u8]) -> (&[u8], &[u8]) {
-    match text.iter().position(|byte| ends_word(*byte)) {
-        Some(at) => (&text[..at], &text[at..]),
-        None => (text, &[]),
+    'bytes: for (at, byte) in text.iter().enumerate() {
+        if b" \t=\n".contains(byte) {
+            return text.split_at(at);
+        }
     }
+    (text, &[])
 }
 
 impl<'a> Reader<'a> {
@@ -60,212 +71,247 @@ impl<'a> Reader<'a> {
         Reader {
             alloc,
             rest: text,
+            next: 1,
             line: 1,
-            at: 1,
+            entries: Vec::new(alloc),
+            once: None,
+            default: None,
+            fault: None,
         }
     }
 
-    pub(crate) fn alloc(&self) -> Global {
-        self.alloc
-    }
-
-    /// The line at which the last token began.
-    pub(crate) fn line(&self) -> usize {
-        self.at
-    }
-
-    /// How many bytes are left: at most so many tokens are.
+    /// More than there are tokens left.
     pub(crate) fn left(&self) -> usize {
-        self.rest.len()
+        self.rest.len().saturating_add(1)
+    }
+
+    /// Reads no more, for this reason if there was none before.
+    pub(crate) fn fail(&mut self, fault: FileFault) {
+        if self.fault.is_none() {
+            self.fault = Some(fault);
+        }
+        self.rest = &[];
     }
 
     /// That this is wrong with the last token.
-    pub(crate) fn wrong(&self, mistake: Mistake) -> FileFault {
-        FileFault::Wrong {
-            line: self.at,
-            mistake,
-        }
-    }
-
-    fn end_line(&mut self) {
-        self.line = self.line.saturating_add(1);
+    pub(crate) fn refuse(&mut self, mistake: Mistake) {
+        let line = self.line;
+        self.fail(FileFault::Wrong { line, mistake });
     }
 
     // Passes over blanks, ends of lines and comments.
     fn skip(&mut self) {
-        'blanks: for _ in 0..self.rest.len() {
-            match self.rest {
-                [b'\n', later @ ..] => {
-                    self.end_line();
-                    self.rest = later;
+        let text = self.rest;
+        let mut is_comment = false;
+        'bytes: for (at, byte) in text.iter().enumerate() {
+            match *byte {
+                b'\n' => {
+                    is_comment = false;
+                    self.next = self.next.saturating_add(1);
                 }
-                [b' ' | b'\t', later @ ..] => self.rest = later,
-                [b'#', ..] => self.rest = from_line_end(self.rest),
-                _ => return,
+                b'#' => is_comment = true,
+                b' ' | b'\t' => {}
+                _ if is_comment => {}
+                _ => {
+                    self.rest = &text[at..];
+                    return;
+                }
             }
         }
+        self.rest = &[];
     }
 
-    // What stands before the next quotation mark, and passes over both. A `\` takes a quotation
-    // mark as it is; elsewhere it stays.
-    fn quoted(&mut self) -> Result<Option<Bytes>, AllocError> {
-        let mut text = Bytes::new(self.alloc);
-        'bytes: for _ in 0..self.rest.len() {
-            match self.rest {
-                [b'"', later @ ..] => {
-                    self.rest = later;
-                    return Ok(Some(text));
-                }
-                [b'\\', b'"', later @ ..] => {
-                    self.rest = later;
-                    text.push(b'"')?;
-                }
-                [b'\\', byte, later @ ..] => {
-                    self.rest = later;
-                    text.push(b'\\')?;
-                    text.push(*byte)?;
-                }
-                [byte, later @ ..] => {
-                    self.rest = later;
-                    if *byte == b'\n' {
-                        self.end_line();
-                    }
-                    text.push(*byte)?;
-                }
-                [] => break,
+    // What stands before the next quotation mark, and passes over both. A `\` takes the byte after it
+    // as it is.
+    fn quoted(&mut self, text: &'a [u8]) -> Token<'a> {
+        let mut is_escaped = false;
+        'bytes: for (at, byte) in text.iter().enumerate() {
+            if *byte == b'"' && !is_escaped {
+                self.rest = &text[at + 1..];
+                return Token::Quoted(&text[..at]);
             }
+            if *byte == b'\n' {
+                self.next = self.next.saturating_add(1);
+            }
+            is_escaped = *byte == b'\\' && !is_escaped;
         }
-        Ok(None)
-    }
-
-    // The word that stands here.
-    fn word_here(&mut self) -> Result<Token, FileFault> {
-        let (word, rest) = split_word(self.rest);
-        self.rest = rest;
-        if word.contains(&b'\r') {
-            return Err(self.wrong(Mistake::CarriageReturn));
-        }
-        let text = Bytes::from_slice(self.alloc, word)?;
-        Ok(Token::Word(text))
-    }
-
-    fn quoted_here(&mut self) -> Result<Token, FileFault> {
-        match self.quoted()? {
-            Some(text) => Ok(Token::Quoted(text)),
-            None => Err(self.wrong(Mistake::OpenQuote)),
-        }
+        self.refuse(Mistake::OpenQuote);
+        Token::End
     }
 
     /// Takes what comes next. At the end of the file the last token's line stays.
-    pub(crate) fn take(&mut self) -> Result<Token, FileFault> {
+    pub(crate) fn take(&mut self) -> Token<'a> {
         self.skip();
-        if !self.rest.is_empty() {
-            self.at = self.line;
-        }
-        match self.rest {
-            [] => Ok(Token::End),
-            [b'{', later @ ..] => {
+        let Some((first, later)) = self.rest.split_first() else {
+            return Token::End;
+        };
+        self.line = self.next;
+        match *first {
+            b'=' | b'{' | b'}' => {
                 self.rest = later;
-                Ok(Token::Open)
+                Token::Sign(*first)
             }
-            [b'}', later @ ..] => {
+            b'"' => self.quoted(later),
+            _ => {
+                let (word, later) = split_word(self.rest);
                 self.rest = later;
-                Ok(Token::Close)
+                if word.contains(&b'\r') {
+                    self.refuse(Mistake::CarriageReturn);
+                }
+                Token::Word(word)
             }
-            [b'=', later @ ..] => {
-                self.rest = later;
-                Ok(Token::Equals)
-            }
-            [b'"', later @ ..] => {
-                self.rest = later;
-                self.quoted_here()
-            }
-            _ => self.word_here(),
         }
     }
 
-    /// Takes a `{`.
-    pub(crate) fn take_open(&mut self) -> Result<(), FileFault> {
-        match self.take()? {
-            Token::Open => Ok(()),
-            _ => Err(self.wrong(Mistake::NoOpen)),
+    /// Refuses what isn't this sign.
+    pub(crate) fn want_sign(&mut self, token: Token<'a>, wanted: u8, mistake: Mistake) {
+        match token {
+            Token::Sign(sign) if sign == wanted => {}
+            _ => self.refuse(mistake),
         }
     }
 
-    /// Takes a `=`.
-    pub(crate) fn take_equals(&mut self) -> Result<(), FileFault> {
-        match self.take()? {
-            Token::Equals => Ok(()),
-            _ => Err(self.wrong(Mistake::NoEquals)),
+    /// Takes a `=` or a `{`.
+    pub(crate) fn sign(&mut self, wanted: u8, mistake: Mistake) {
+        let token = self.take();
+        self.want_sign(token, wanted, mistake);
+    }
+
+    /// Refuses what is no word.
+    pub(crate) fn want_word(&mut self, token: Token<'a>) {
+        if let Token::Sign(_) | Token::End = token {
+            self.refuse(Mistake::NoWord);
         }
     }
 
     /// Takes any word.
-    pub(crate) fn take_text(&mut self) -> Result<Bytes, FileFault> {
-        match self.take()? {
-            Token::Word(text) | Token::Quoted(text) => Ok(text),
-            _ => Err(self.wrong(Mistake::NoWord)),
-        }
+    pub(crate) fn word(&mut self) -> Token<'a> {
+        let token = self.take();
+        self.want_word(token);
+        token
     }
 
     /// Takes `= WORD`.
-    pub(crate) fn take_value(&mut self) -> Result<Bytes, FileFault> {
-        self.take_equals()?;
-        self.take_text()
+    pub(crate) fn value(&mut self) -> Token<'a> {
+        self.sign(b'=', Mistake::NoEquals);
+        self.word()
     }
 
-    /// The same, with the line of the word.
-    pub(crate) fn take_word(&mut self) -> Result<Word, FileFault> {
-        let text = self.take_value()?;
-        Ok(Word {
-            line: self.at,
-            text,
-        })
-    }
-
-    /// Takes `= WORD` into this place, or refuses a second one.
-    pub(crate) fn take_once(&mut self, place: &mut Option<Word>) -> Result<(), FileFault> {
-        if let Some(first) = place {
-            return Err(self.wrong(Mistake::Repeated(first.line)));
+    /// What a word without quotes means by a table.
+    pub(crate) fn meaning<T: Copy>(
+        &mut self,
+        token: Token<'a>,
+        table: &[Meaning<T>],
+        mistake: Mistake,
+    ) -> Option<T> {
+        let meaning = match token {
+            Token::Word(word) => find(table, word),
+            _ => None,
+        };
+        if meaning.is_none() {
+            self.refuse(mistake);
         }
-        let word = self.take_word()?;
-        *place = Some(word);
-        Ok(())
+        meaning
     }
 
-    /// Takes a word without quotes.
-    pub(crate) fn take_plain(&mut self, mistake: Mistake) -> Result<Bytes, FileFault> {
-        match self.take()? {
-            Token::Word(text) => Ok(text),
-            _ => Err(self.wrong(mistake)),
-        }
+    /// Takes this word, without quotes.
+    pub(crate) fn this(&mut self, wanted: &'static [u8]) {
+        let token = self.take();
+        self.meaning(token, &[(wanted, ())], Mistake::NoSetting);
     }
 
-    /// Takes this keyword.
-    pub(crate) fn take_keyword(&mut self, keyword: &[u8]) -> Result<(), FileFault> {
-        let word = self.take_plain(Mistake::NoSetting)?;
-        if word.as_slice() == keyword {
-            Ok(())
-        } else {
-            Err(self.wrong(Mistake::NoSetting))
+    /// The verdict that a word is.
+    pub(crate) fn verdict_of(&mut self, token: Token<'a>) -> Verdict {
+        match self.meaning(token, &VERDICTS, Mistake::NoVerdict) {
+            Some(verdict) => verdict,
+            None => Verdict::Deny,
         }
     }
 
-    /// Takes `permit` or `deny`.
-    pub(crate) fn take_verdict(&mut self) -> Result<Verdict, FileFault> {
-        let word = self.take_plain(Mistake::NoVerdict)?;
-        match verdict_of(word.as_slice()) {
-            Some(verdict) => Ok(verdict),
-            None => Err(self.wrong(Mistake::NoVerdict)),
+    /// Takes `= permit` or `= deny`.
+    pub(crate) fn verdict(&mut self) -> Verdict {
+        self.sign(b'=', Mistake::NoEquals);
+        let token = self.take();
+        self.verdict_of(token)
+    }
+
+    /// Takes what comes next between braces; nothing at the `}` that ends them.
+    pub(crate) fn inner(&mut self) -> Option<Token<'a>> {
+        match self.take() {
+            Token::Sign(b'}') => None,
+            Token::End => {
+                self.refuse(Mistake::OpenBrace);
+                None
+            }
+            token => Some(token),
         }
     }
-}
 
-/// The verdict that a keyword is.
-pub(crate) fn verdict_of(word: &[u8]) -> Option<Verdict> {
-    match word {
-        b"permit" => Some(Verdict::Permit),
-        b"deny" => Some(Verdict::Deny),
-        _ => None,
+    fn push(&mut self, text: &mut Vec<u8>, byte: u8) {
+        if text.push(byte).is_err() {
+            self.fail(FileFault::Memory);
+        }
+    }
+
+    // What stands between quotes. A `\` is left out before a quotation mark.
+    fn add_quoted(&mut self, text: &mut Vec<u8>, quoted: &[u8]) {
+        let mut is_escaped = false;
+        'bytes: for byte in quoted {
+            if is_escaped && *byte != b'"' {
+                self.push(text, b'\\');
+            }
+            is_escaped = *byte == b'\\' && !is_escaped;
+            if !is_escaped {
+                self.push(text, *byte);
+            }
+        }
+    }
+
+    /// What a word is.
+    pub(crate) fn text_of(&mut self, token: Token<'a>) -> Bytes {
+        let mut text = Vec::new(self.alloc);
+        match token {
+            Token::Word(word) => {
+                if text.extend_from_slice(word).is_err() {
+                    self.fail(FileFault::Memory);
+                }
+            }
+            Token::Quoted(quoted) => self.add_quoted(&mut text, quoted),
+            _ => {}
+        }
+        Bytes::from(text)
+    }
+
+    /// Adds what is said at a line.
+    pub(crate) fn add(&mut self, line: usize, said: Said, name: Token<'a>, value: Token<'a>) {
+        let name = self.text_of(name);
+        let value = self.text_of(value);
+        let entry = Entry {
+            line,
+            said,
+            name,
+            value,
+        };
+        if self.entries.push(entry).is_err() {
+            self.fail(FileFault::Memory);
+        }
+    }
+
+    /// What was said, or the first fault.
+    pub(crate) fn finish(self) -> Result<Vec<Entry>, FileFault> {
+        let Reader {
+            alloc: _,
+            rest: _,
+            next: _,
+            line: _,
+            entries,
+            once: _,
+            default: _,
+            fault,
+        } = self;
+        match fault {
+            Some(fault) => Err(fault),
+            None => Ok(entries),
+        }
     }
 }

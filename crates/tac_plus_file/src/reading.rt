@@ -1,149 +1,127 @@
 //! Reading a whole file.
 
-use crate::blocks::{read_access_list, read_host};
-use crate::configuration::{Configuration, Extra, Setting};
+use crate::configuration::{Block, Configuration, Names, Place, Said};
 use crate::fault::{FileFault, Mistake};
-use crate::reader::{Reader, Token};
-use crate::subject::read_subject;
-use pol_names::Kind;
+use crate::keywords::{HOST_LINES, ITEMS, LINES, Line, Meaning};
+use crate::reader::{EMPTY, Reader, Token};
 use std::alloc::Global;
 use std::collections::BTreeMap;
 
-// Names, and the lines at which what they name begins.
-type Names = BTreeMap<Vec<u8>, usize>;
-
-// What is read of a file, and who is there by now.
-#[derive(Drop)]
-struct Draft {
-    read: Configuration,
+// Who is there by now.
+struct Present {
+    blocks: Vec<Block>,
     users: Names,
     groups: Names,
     hosts: Names,
 }
 
-impl Draft {
-    fn new(alloc: Global) -> Draft {
-        Draft {
-            read: Configuration {
-                key: None,
-                hosts: Vec::new(alloc),
-                subjects: Vec::new(alloc),
-                extras: Vec::new(alloc),
-            },
+// By hand, so that a proof of an owner has one call at each exit, not a drop of each field.
+impl Drop for Present {
+    fn drop(self) {
+        let Present {
+            blocks: _,
+            users: _,
+            groups: _,
+            hosts: _,
+        } = self;
+    }
+}
+
+impl Present {
+    fn new(alloc: Global) -> Present {
+        Present {
+            blocks: Vec::new(alloc),
             users: BTreeMap::new(alloc),
             groups: BTreeMap::new(alloc),
             hosts: BTreeMap::new(alloc),
         }
     }
-}
 
-// Notes that this name's subject or device begins here, or refuses a second one.
-fn add_name(reader: &Reader<'_>, names: &mut Names, name: &[u8]) -> Result<(), FileFault> {
-    let first = names.get(name).copied();
-    if let Some(first) = first {
-        return Err(reader.wrong(Mistake::Repeated(first)));
+    // What the file said, if there was no fault.
+    fn finish(self, reader: Reader<'_>) -> Result<Configuration, FileFault> {
+        let Present {
+            blocks,
+            users: _,
+            groups,
+            hosts: _,
+        } = self;
+        let entries = reader.finish()?;
+        Ok(Configuration {
+            entries,
+            blocks,
+            groups,
+        })
     }
-    let name = Vec::from_slice(reader.alloc(), name)?;
-    names.insert(name, reader.line())?;
-    Ok(())
-}
 
-fn take_subject(reader: &mut Reader<'_>, draft: &mut Draft, kind: Kind) -> Result<(), FileFault> {
-    let line = reader.line();
-    let name = reader.take_value()?;
-    let names = match kind {
-        Kind::User => &mut draft.users,
-        Kind::Group => &mut draft.groups,
-    };
-    add_name(reader, names, name.as_slice())?;
-    let subject = read_subject(reader, line, kind, name, &mut draft.read.extras)?;
-    draft.read.subjects.push(subject)?;
-    Ok(())
-}
-
-fn take_host(reader: &mut Reader<'_>, draft: &mut Draft) -> Result<(), FileFault> {
-    let line = reader.line();
-    let name = reader.take_value()?;
-    add_name(reader, &mut draft.hosts, name.as_slice())?;
-    let host = read_host(reader, line, name, &mut draft.read.extras)?;
-    draft.read.hosts.push(host)?;
-    Ok(())
-}
-
-// Passes over `accounting ..`.
-fn take_accounting(reader: &mut Reader<'_>) -> Result<Setting, FileFault> {
-    let word = reader.take_plain(Mistake::NoSetting)?;
-    match word.as_slice() {
-        b"syslog" => Ok(Setting::AccountingSyslog),
-        b"file" => {
-            reader.take_value()?;
-            Ok(Setting::AccountingFile)
-        }
-        _ => Err(reader.wrong(Mistake::NoSetting)),
-    }
-}
-
-// Passes over `default ..`.
-fn take_default(reader: &mut Reader<'_>) -> Result<Setting, FileFault> {
-    let word = reader.take_plain(Mistake::NoSetting)?;
-    reader.take_equals()?;
-    match word.as_slice() {
-        b"authorization" => {
-            reader.take_verdict()?;
-            Ok(Setting::DefaultAuthorization)
-        }
-        b"authentication" => {
-            reader.take_keyword(b"file")?;
-            reader.take_text()?;
-            Ok(Setting::DefaultAuthentication)
-        }
-        _ => Err(reader.wrong(Mistake::NoSetting)),
-    }
-}
-
-// Passes over what has no equal.
-fn take_extra(reader: &mut Reader<'_>, word: &[u8]) -> Result<Setting, FileFault> {
-    match word {
-        b"accounting" => take_accounting(reader),
-        b"default" => take_default(reader),
-        b"logging" => {
-            reader.take_value()?;
-            Ok(Setting::Logging)
-        }
-        b"acl" => {
-            read_access_list(reader)?;
-            Ok(Setting::AccessList)
-        }
-        b"include" => Err(reader.wrong(Mistake::Include)),
-        _ => Err(reader.wrong(Mistake::NoSetting)),
-    }
-}
-
-// What a word outside of all braces begins.
-fn take_item(reader: &mut Reader<'_>, draft: &mut Draft, word: &[u8]) -> Result<(), FileFault> {
-    match word {
-        b"user" => take_subject(reader, draft, Kind::User),
-        b"group" => take_subject(reader, draft, Kind::Group),
-        b"key" => reader.take_once(&mut draft.read.key),
-        b"host" => take_host(reader, draft),
-        _ => {
-            let line = reader.line();
-            let setting = take_extra(reader, word)?;
-            draft.read.extras.push(Extra { line, setting })?;
-            Ok(())
+    fn names(&mut self, said: Said) -> &mut Names {
+        match said {
+            Said::User => &mut self.users,
+            Said::Group => &mut self.groups,
+            _ => &mut self.hosts,
         }
     }
 }
 
-fn read_items(reader: &mut Reader<'_>, draft: &mut Draft) -> Result<(), FileFault> {
+// Notes that this name stands here, or refuses a second one.
+fn add_name(reader: &mut Reader<'_>, names: &mut Names, name: Token<'_>, block: usize) {
+    let line = reader.line;
+    let name = reader.text_of(name).into_vec();
+    match names.insert(name, Place { line, block }) {
+        Ok(None) => {}
+        Ok(Some(first)) => reader.refuse(Mistake::Repeated(first.line)),
+        Err(_) => reader.fail(FileFault::Memory),
+    }
+}
+
+// What stands between the braces of a user, a group or a device.
+fn read_lines<'a>(reader: &mut Reader<'a>, table: &[Meaning<Line>]) {
+    'lines: for _ in 0..reader.left() {
+        let Some(token) = reader.inner() else {
+            return;
+        };
+        if let Some(begun) = reader.meaning(token, table, Mistake::NoSetting) {
+            reader.read_line(token, begun);
+        }
+    }
+}
+
+// A user, a group or a device, whose keyword has been taken.
+fn read_block(reader: &mut Reader<'_>, present: &mut Present, said: Said) {
+    let line = reader.line;
+    let once = reader.once.take();
+    reader.default = None;
+    let name = reader.value();
+    let from = reader.entries.len();
+    reader.add(line, said, name, EMPTY);
+    let block = present.blocks.len();
+    let names = present.names(said);
+    let number = names.len();
+    add_name(reader, names, name, block);
+    reader.sign(b'{', Mistake::NoOpen);
+    match said {
+        Said::Host => read_lines(reader, &HOST_LINES),
+        _ => read_lines(reader, &LINES),
+    }
+    let end = reader.entries.len();
+    if present.blocks.push(Block { from, end, number }).is_err() {
+        reader.fail(FileFault::Memory);
+    }
+    reader.once = once;
+}
+
+// What stands outside of all braces.
+fn read_items(reader: &mut Reader<'_>, present: &mut Present) {
     'items: for _ in 0..reader.left() {
-        match reader.take()? {
-            Token::Word(word) => take_item(reader, draft, word.as_slice())?,
-            Token::End => break,
-            _ => return Err(reader.wrong(Mistake::NoSetting)),
+        let token = reader.take();
+        if let Token::End = token {
+            return;
+        }
+        match reader.meaning(token, &ITEMS, Mistake::NoSetting) {
+            Some(Line::Begins(said)) => read_block(reader, present, said),
+            Some(begun) => reader.read_line(token, begun),
+            None => {}
         }
     }
-    Ok(())
 }
 
 /// What a file says, as tac_plus F4.0.4 reads it; or the first line that isn't one of its files.
@@ -152,13 +130,7 @@ fn read_items(reader: &mut Reader<'_>, draft: &mut Draft) -> Result<(), FileFaul
 /// nothing here goes deeper than that.
 pub fn read_configuration(alloc: Global, text: &[u8]) -> Result<Configuration, FileFault> {
     let mut reader = Reader::new(alloc, text);
-    let mut draft = Draft::new(alloc);
-    read_items(&mut reader, &mut draft)?;
-    let Draft {
-        read,
-        users: _,
-        groups: _,
-        hosts: _,
-    } = draft;
-    Ok(read)
+    let mut present = Present::new(alloc);
+    read_items(&mut reader, &mut present);
+    present.finish(reader)
 }
