@@ -691,18 +691,53 @@ where
 }
 
 /// What a worker waits with. The first one accepts connections for all.
-#[derive(Drop)]
 pub(crate) struct Waits {
     pub(crate) poller: Poller,
     pub(crate) acceptor: Option<Acceptor>,
 }
 
+// By hand, so that a proof of an owner has one call at each exit, not a drop of each field.
+impl Drop for Waits {
+    fn drop(self) {
+        let Waits {
+            poller: _,
+            acceptor: _,
+        } = self;
+    }
+}
+
 /// What a worker takes to its thread: which one it is, its seat, and what it waits with.
-#[derive(Drop)]
 pub(crate) struct Place<J: Run> {
     pub(crate) at: usize,
     pub(crate) seat: Seat<J>,
     pub(crate) waits: Waits,
+}
+
+// By hand, so that a proof of an owner has one call at each exit, not a drop of each field.
+impl<J: Run> Drop for Place<J> {
+    fn drop(self) {
+        let Place {
+            at: _,
+            seat: _,
+            waits: _,
+        } = self;
+    }
+}
+
+impl Waits {
+    fn into_parts(self) -> (Poller, Option<Acceptor>) {
+        let Waits { poller, acceptor } = self;
+        (poller, acceptor)
+    }
+}
+
+impl<J: Run> Place<J> {
+    fn into_parts(self) -> (usize, Seat<J>, Waits)
+        ensures { result.1 ≡ self.seat }
+    {
+        let Place { at, seat, waits } = self;
+        (at, seat, waits)
+    }
 }
 
 /// Serves connections until the server stops, or until it has served as many as it is to.
@@ -716,8 +751,8 @@ where
         (L.keeping premises.now.log.now) premises.now.settings.now.connections place.seat
         result }
 {
-    let Place { at, seat, waits } = place;
-    let Waits { poller, acceptor } = waits;
+    let (at, seat, waits) = place.into_parts();
+    let (poller, acceptor) = waits.into_parts();
     let mut poller = poller;
     let moments = Moments::new();
     let visits = Visits::new();
