@@ -13,7 +13,10 @@ import time
 import headers
 from headers import LOCAL, PROXY, TCP4, TCP6, UDP4, UNIX, UNSPEC, USED, binary, line, vector
 from judging import holds, judge, settles
-from packets import CLOSED, KEPT, SHOW, SINGLE, Clear, Padded, ends, is_permitted, packet, reply
+from packets import (
+    CLOSED, KEPT, PERMITTED, SHOW, SINGLE, Clear, Padded, ends, is_permitted, packet, part_of,
+    reply,
+)
 from places import IS_ROOT, STRANGER, USER, as_user
 from server import KEY, Numbers
 from through import ACCESS, ANY, BOTH, CORE_1
@@ -121,10 +124,8 @@ def answered(server, data, pieces=None):
                     time.sleep(0.001)
         except ConnectionError:
             pass
-        came = reply(stream, Clear())
-        if came == CLOSED:
-            return CLOSED
-        return SERVED if came[1].hex() == "010000000000" else came
+        came = part_of(reply(stream, Clear()), lambda it: it.body.hex())
+        return SERVED if came == PERMITTED else came
 
 
 def try_headers(server):
@@ -154,8 +155,7 @@ def try_pieces(server):
     with connected(server) as stream:
         packets = [packet(Clear(), SHOW, n, flags=SINGLE) for n in (1, 2, 3)]
         stream.sendall(line(ANY) + b"".join(packets))
-        found = [came if (came := reply(stream, Clear())) == CLOSED else came[0].session
-                 for _ in packets]
+        found = [part_of(reply(stream, Clear()), lambda it: it.header.session) for _ in packets]
         judge("three packets behind a header", (found, ends(stream)), ([1, 2, 3], KEPT))
 
 

@@ -1,7 +1,6 @@
 """Packets as devices send them (RFC 8907), under a key or in clear, and what comes back."""
 
 import hashlib
-import socket
 import struct
 from typing import NamedTuple
 
@@ -178,16 +177,28 @@ def received(stream, count):
     return data
 
 
+class Reply(NamedTuple):
+    header: Header
+    body: bytes
+
+
 def reply(stream, door):
-    """Header and body of the next reply in clear, or that the connection is closed."""
+    """The next reply in clear, or what came in its place."""
     try:
         data = received(stream, HEADER_SIZE)
         if len(data) < HEADER_SIZE:
             return CLOSED if data == b"" else f"cut off: {data.hex()}"
         header = Header(*struct.unpack("!BBBBII", data))
-        return header, door.carry(header, received(stream, header.length))
+        return Reply(header, door.carry(header, received(stream, header.length)))
     except ConnectionError:
         return CLOSED
+    except TimeoutError:
+        return "nothing comes"
+
+
+def part_of(came, part):
+    """A part of a reply, or what came in its place."""
+    return part(came) if isinstance(came, Reply) else came
 
 
 def packet(door, asked, session, number=0, flags=0):
@@ -199,14 +210,14 @@ def packet(door, asked, session, number=0, flags=0):
 
 
 def replies(stream, door, asked, session, flags=0):
-    """The replies to all packets of a session, each as it came, up to where it is closed."""
+    """The replies to all packets of a session, each as it came, up to one that isn't there."""
     came, last = [], len(asked.bodies) - 1
     for number in range(len(asked.bodies)):
         stream.sendall(packet(door, asked, session, number, flags))
         if number < last or asked.is_answered:
             came.append(reply(stream, door))
-        if CLOSED in came:
-            break
+            if not isinstance(came[-1], Reply):
+                break
     return came
 
 
@@ -226,6 +237,6 @@ def is_permitted(stream, door=Clear(), session=1, flags=0):
     """Whether a command line is asked about on this connection, and permitted."""
     try:
         came = replies(stream, door, SHOW, session, flags)[0]
-    except (ConnectionError, socket.timeout):
+    except (ConnectionError, TimeoutError):
         return False
-    return came != CLOSED and came[1].hex() == PERMITTED
+    return part_of(came, lambda it: it.body.hex()) == PERMITTED

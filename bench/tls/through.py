@@ -14,7 +14,8 @@ from certificates import DEVICE, SERVER
 from judging import holds, judge, settles
 from packets import (
     ACCOUNTING, AUTHENTICATION, AUTHORISATION, BAD_BODY, CLOSED, KEPT, PAP, PERMITTED, SESSIONS,
-    SHOW, SINGLE, UNENCRYPTED, Clear, Padded, ends, is_permitted, login, packet, replies, reply,
+    SHOW, SINGLE, UNENCRYPTED, Clear, Padded, ends, is_permitted, login, packet, part_of, replies,
+    reply,
 )
 from proxies import has_ipv6
 from server import KEY, Numbers, since
@@ -297,17 +298,25 @@ def try_few(trial):
 # ---- what is answered
 
 
+def flag(one):
+    return one.header.flags & UNENCRYPTED
+
+
+def without_flag(one):
+    return one.header._replace(flags=one.header.flags & ~UNENCRYPTED), one.body.hex()
+
+
+def body(one):
+    return one.body.hex()
+
+
 def seen(stream, door, asked, session, flags):
     """The replies to a session without what differs by the door, and how its connection is left."""
     came = []
     for one in replies(stream, door, asked, session, flags):
-        if one == CLOSED or isinstance(one, str):
-            came.append(one)
-            continue
-        header, body = one
-        if header.flags & UNENCRYPTED != door.FLAG:
-            came.append(f"the flags {header.flags}")
-        came.append((header._replace(flags=header.flags & ~UNENCRYPTED), body.hex()))
+        if part_of(one, flag) not in (door.FLAG, CLOSED):
+            came.append("another flag")
+        came.append(part_of(one, without_flag))
     if CLOSED not in came:
         came.append(ends(stream))
         stream.settimeout(20)
@@ -358,8 +367,8 @@ def try_one_connection(trial):
         sent = b"".join(packet(Clear(), asked, n, flags=SINGLE) for n in range(1, 17))
         for begin in range(0, len(sent), 7):
             stream.sendall(sent[begin : begin + 7])
-        found = [reply(stream, Clear()) for _ in range(16)]
-        found = [(header.session, body.hex()) for header, body in found]
+        found = [part_of(reply(stream, Clear()), lambda one: (one.header.session, body(one)))
+                 for _ in range(16)]
         wanted = [(n, "010000000000") for n in range(1, 17)]
         trial.judge("sixteen logins on a connection", found == wanted or found, True)
 
@@ -378,8 +387,7 @@ def try_unflagged(trial):
                     data = bytearray(packet(door, asked, 5, flags=flags))
                     data[3] &= ~UNENCRYPTED
                     stream.sendall(data)
-                    came = reply(stream, Clear())
-                    found = came if came == CLOSED else (came[0].flags & UNENCRYPTED, came[1].hex())
+                    found = part_of(reply(stream, Clear()), lambda one: (flag(one), body(one)))
                     after = ends(stream)
                 trial.judge(f"type {kind} without the flag, {what}, flags {flags}",
                             (found, after), ((UNENCRYPTED, BAD_BODY[kind]), CLOSED))
@@ -388,12 +396,12 @@ def try_unflagged(trial):
     with trial.device(BOTH) as stream:
         asked = SESSIONS["a login by questions"][0]
         stream.sendall(packet(Clear(), asked, 6, flags=SINGLE))
-        question = reply(stream, Clear())[1][0]
+        question = part_of(reply(stream, Clear()), body)
         data = bytearray(packet(Clear(), asked, 6, 1, SINGLE))
         data[3] &= ~UNENCRYPTED
         stream.sendall(data)
-        found = question, reply(stream, Clear())[1].hex(), ends(stream)
-        trial.judge("an answer without the flag", found, (4, BAD_BODY[AUTHENTICATION], CLOSED))
+        found = question[:2], part_of(reply(stream, Clear()), body), ends(stream)
+        trial.judge("an answer without the flag", found, ("04", BAD_BODY[AUTHENTICATION], CLOSED))
     numbers.served()
     numbers.told("bad body")
     numbers.judge("after them")
