@@ -10,11 +10,20 @@ use std::time::Clock;
 use tac_digests::{Digests, Done, Job, MOST_DIGESTS};
 
 /// The passwords that a server works out.
-#[derive(Drop)]
 pub(crate) struct Hashing {
     digests: Digests,
     // until when nothing is said of logins that find no room
     hush: Hush,
+}
+
+// By hand, so that a proof of an owner has one call at each exit, not a drop of each field.
+impl Drop for Hashing {
+    fn drop(self) {
+        let Hashing {
+            digests: _,
+            hush: _,
+        } = self;
+    }
 }
 
 impl Hashing {

@@ -27,7 +27,6 @@ pub(crate) struct Arrival {
 }
 
 /// What one worker is handed, and what wakes it.
-#[derive(Drop)]
 struct Inbox {
     waker: Waker,
     arrivals: Mutex<Vec<Arrival>>,
@@ -37,8 +36,19 @@ struct Inbox {
     left: AtomicU32,
 }
 
+// By hand, so that a proof of an owner has one call at each exit, not a drop of each field.
+impl Drop for Inbox {
+    fn drop(self) {
+        let Inbox {
+            waker: _,
+            arrivals: _,
+            load: _,
+            left: _,
+        } = self;
+    }
+}
+
 /// Where new connections go: each to the worker that has the fewest, unless there are too many.
-#[derive(Drop)]
 pub(crate) struct Intake {
     inboxes: Vec<Inbox>,
     census: Mutex<Census>,
@@ -46,6 +56,19 @@ pub(crate) struct Intake {
     turned_away: TurnedAway,
     // how many connections may still be handed to workers
     left: AtomicU64,
+}
+
+// By hand, so that a proof of an owner has one call at each exit, not a drop of each field.
+impl Drop for Intake {
+    fn drop(self) {
+        let Intake {
+            inboxes: _,
+            census: _,
+            packet_memory: _,
+            turned_away: _,
+            left: _,
+        } = self;
+    }
 }
 
 impl Inbox {

@@ -5,11 +5,21 @@ use crate::proxy_socket::ProxySocket;
 use std::sync::atomic::{AtomicBool, Ordering};
 
 /// Where a server is called: at a port by devices, at a socket by a proxy, or at both.
-#[derive(Drop)]
 pub struct Listeners {
     pub(crate) port: Option<Port>,
     pub(crate) proxy: Option<ProxySocket>,
     is_left: AtomicBool,
+}
+
+// By hand, so that a proof of an owner has one call at each exit, not a drop of each field.
+impl Drop for Listeners {
+    fn drop(self) {
+        let Listeners {
+            port: _,
+            proxy: _,
+            is_left: _,
+        } = self;
+    }
 }
 
 impl Listeners {
