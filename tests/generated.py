@@ -28,6 +28,8 @@ def cases(name):
         records_up_to_300,
         records_of_many_users,
         many_records_of_a_user,
+        records_and_rules_of_each_size,
+        records_of_any_bytes,
         policies_at_the_limits,
         edits_at_the_limits,
         printed_policies,
@@ -284,6 +286,39 @@ def many_records_of_a_user():
     printed += tally_line("user bob", *counts, 2) + tally_line("group all", *counts, 2)
     printed += tally_line("user eve", 1, 0, 0, 0, 1, 0, 0)
     yield "5,000 of a user", script, printed
+
+
+def records_and_rules_of_each_size():
+    """Up to sixty, each of which is added, listed, decided by and counted."""
+    script, printed, records, rules = opened("user bob\n"), "", "", ""
+    for size in range(1, 61):
+        shown = ("elapsed_time=1", "service=shell", f"cmd=show {size}")
+        script += record(4, "bob", f"task_id={size}", *shown)
+        script += f"console insert user bob {size} permit ping {size}\nconsole why bob ping {size}\n"
+        script += "console tally user bob\nconsole records\nconsole policy\n"
+        records += f"record {size} user bob stop task {size} elapsed 1 line show%20{size}\n"
+        rules += f"permit ping {size}\n"
+        printed += f"{STORED}ok\nuser bob now permits: ping {size}\n"
+        printed += f"permitted by user bob rule {size}\n"
+        printed += tally_line("user bob", 0, size, 0, 0, 0, size, size)
+        printed += f"{records}policy 2\nuser bob\n{rules}"
+    yield "up to sixty", script, printed
+
+
+def records_of_any_bytes():
+    """A byte that isn't printed as it is stands in percent form, and no bytes are a `%`. A line that
+    isn't of symbols isn't kept."""
+    script, printed = opened(""), ""
+    for number, byte in enumerate(map(chr, range(256)), start=1):
+        body = bytes([4, 6, 1, 1, 1, 1, 0, 0, 3, 9, 13, 5]) + byte.encode("latin-1")
+        body += f"task_id={byte}service=shellcmd={byte}".encode("latin-1")
+        script += packet("c0030104.00000001", body)
+        shown = byte if "!" <= byte <= "~" and byte != "%" else f"%{ord(byte):02X}"
+        line = f" line {shown}" if " " <= byte <= "~" else ""
+        printed += f"record {number} user {shown} stop task {shown} elapsed 0{line}\n"
+    script += record(8, "", "task_id=") + "console records\n"
+    printed = STORED * 257 + printed + "record 257 user % watchdog task % elapsed 0\n"
+    yield "each of them", script, printed
 
 
 def policies_at_the_limits():

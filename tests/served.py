@@ -81,6 +81,7 @@ def cases(name):
         a_log_after_a_run,
         lines_wait_for_the_disk,
         a_script_and_its_lines,
+        the_longest_script,
         a_file_that_changes,
         no_memory_for_a_policy,
         without_a_console,
@@ -869,6 +870,27 @@ def a_script_and_its_lines(program):
         )
     ]
     require(lines == wanted, f"the log has {lines}")
+
+
+def the_longest_script(program):
+    """It is read whole, and then its first line is judged. A longer one isn't read to its end, which an
+    input without end shows."""
+    most = 268_435_456
+    too_long = b"tacd: the script could not be read, or is over 268435456 bytes long\n"
+    with tempfile.TemporaryDirectory(prefix="tacd-served-") as folder:
+        script = pathlib.Path(folder, "script")
+        for path, length, wanted in (
+            (script, most, (b"fault line 1 BadKey\n", b"", 1)),
+            (script, most + 1, (b"", too_long, 4)),
+            (pathlib.Path("/dev/zero"), None, (b"", too_long, 4)),
+        ):
+            if length:
+                with path.open("wb") as file:
+                    file.truncate(length)
+            with path.open("rb") as given:
+                run = subprocess.run([program, "replay"], stdin=given, capture_output=True)
+            came = (run.stdout, run.stderr, run.returncode)
+            require(came == wanted, f"of {length} bytes it ends by {came}")
 
 
 DENIED = "c0020204.00000001.00000017.100000110000'denied by default'"
