@@ -1,14 +1,11 @@
-//! Tests of the desk and its console, against answers that were worked out by hand.
+//! Tests of both desks, the one that works out each answer anew and the one that keeps automata,
+//! tallies and decisions, against answers that were worked out by hand.
 
 mod asks;
 mod batches;
 mod both;
-mod chance;
-mod edits;
 mod hashes;
-mod keeping;
 mod loads;
 mod questions;
 mod services;
-mod sizes;
 mod support;

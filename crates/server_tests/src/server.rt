@@ -1,13 +1,7 @@
-//! Tests of the server over desks of its own and of others.
+//! Tests of the server of scripts over two desks, one of which has no memory, and of replays over
+//! readers and writers that fail.
 
-#[cfg(test)]
 mod conversing;
-#[cfg(test)]
-mod faltering;
-mod ledger;
-#[cfg(test)]
 mod limits;
-#[cfg(test)]
-mod support;
-#[cfg(test)]
+mod starved;
 mod transport;

@@ -2,13 +2,14 @@
 
 use crate::desk::both::converses;
 use std::test::Fail;
+use tac_tally::RecordLimit;
 
 #[test]
 fn accepted_batches(rt: HostRuntime) -> Result<(), Fail> {
     converses(
         &rt,
         "group ops\npermit show .*\nuser bob in ops\nlogin x\n",
-        9,
+        RecordLimit::refusing(9),
         "
         # No edits at all.
         > begin
@@ -85,7 +86,7 @@ fn refused_batches(rt: HostRuntime) -> Result<(), Fail> {
     converses(
         &rt,
         "group ops\npermit show .*\nuser bob in ops\nlogin x\n",
-        9,
+        RecordLimit::refusing(9),
         "
         # The first refusal counts, and the edits before it are not made.
         > begin
@@ -151,7 +152,7 @@ fn sizes_of_batches(rt: HostRuntime) -> Result<(), Fail> {
     converses(
         &rt,
         "group ops\npermit show .*\nuser bob in ops\n",
-        9,
+        RecordLimit::refusing(9),
         "
         # Only the policy that all edits make may not be too large.
         > begin
@@ -193,7 +194,7 @@ fn drift_after_batches(rt: HostRuntime) -> Result<(), Fail> {
     converses(
         &rt,
         "group ops\npermit show .*\nuser bob in ops\nuser eve in ops\n",
-        9,
+        RecordLimit::refusing(9),
         "
         ? record bob stop 7 12 show version
         stored

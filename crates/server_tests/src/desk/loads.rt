@@ -1,12 +1,13 @@
 //! What is answered where another policy takes the place of the present one, and what stays.
 
-use crate::desk::both::both_say;
+use crate::desk::both::{OPS, converses};
 use pol_text::Policy;
 use std::alloc::{AllocError, Global};
 use std::fmt::Write;
 use std::test::Fail;
 use tac_console::write_edit_answer;
 use tac_desk::Desk;
+use tac_tally::RecordLimit;
 
 // The policy whose lines `; ` parts.
 fn policy_of(alloc: Global, lines: &str) -> Result<Policy, Fail> {
@@ -45,8 +46,10 @@ pub(crate) fn load<D: Desk>(
 // are decided before each policy and after it, so that both desks have them at hand.
 #[test]
 fn users_gain_and_lose(rt: HostRuntime) -> Result<(), Fail> {
-    both_say(
+    converses(
         &rt,
+        OPS,
+        RecordLimit::refusing(9),
         "\
 ? record bob stop 1 2 show run
 stored
@@ -86,8 +89,10 @@ tally group ops starts 0 stops 2 watchdogs 0 updates 0 open 0 elapsed 5 drift 1
 // gone has done stays, and all of it drifts.
 #[test]
 fn users_come_and_go_and_move(rt: HostRuntime) -> Result<(), Fail> {
-    both_say(
+    converses(
         &rt,
+        OPS,
+        RecordLimit::refusing(9),
         "\
 ? record bob stop 1 2 show run
 stored
@@ -140,8 +145,10 @@ permit show run
 // Secrets and levels are those of the new policy, and no user is told of them.
 #[test]
 fn secrets_levels_and_order(rt: HostRuntime) -> Result<(), Fail> {
-    both_say(
+    converses(
         &rt,
+        OPS,
+        RecordLimit::refusing(9),
         "\
 ? login bob x
 fail
@@ -172,8 +179,10 @@ pass
 // Of a policy in which a subject is too large nothing is taken.
 #[test]
 fn another_policy_that_is_too_large(rt: HostRuntime) -> Result<(), Fail> {
-    both_say(
+    converses(
         &rt,
+        OPS,
+        RecordLimit::refusing(9),
         "\
 ? record bob stop 1 2 show run
 stored
@@ -202,8 +211,10 @@ user eve in ops
 // Edits before another policy are gone with it, and edits after it are of it.
 #[test]
 fn edits_before_another_policy_and_after(rt: HostRuntime) -> Result<(), Fail> {
-    both_say(
+    converses(
         &rt,
+        OPS,
+        RecordLimit::refusing(9),
         "\
 > insert group ops 1 deny show run
 ok

@@ -1,13 +1,16 @@
 //! What users are given for services, and for a shell, by both desks.
 
-use crate::desk::both::both_say;
+use crate::desk::both::{OPS, converses};
 use std::test::Fail;
+use tac_tally::RecordLimit;
 
 // The level comes first. A line that isn't empty is given nothing.
 #[test]
 fn shells(rt: HostRuntime) -> Result<(), Fail> {
-    both_say(
+    converses(
         &rt,
+        OPS,
+        RecordLimit::refusing(9),
         "\
 < policy 3; group ops; priv 15; service shell shell:roles*\"network-operator\"; \
 service shell timeout=60; permit (); permit show .*; user bob in ops; user eve in ops
@@ -68,8 +71,10 @@ permitted
 // Names and protocols are compared whole, byte by byte.
 #[test]
 fn other_services(rt: HostRuntime) -> Result<(), Fail> {
-    both_say(
+    converses(
         &rt,
+        OPS,
+        RecordLimit::refusing(9),
         "\
 < policy 3; group ops; priv 15; service junos-exec local-user-name=ops; \
 service PaloAlto/firewall PaloAlto-Admin-Role=superuser; service sshd/unknown; \
@@ -122,8 +127,10 @@ unserved
 // The nearest decides, alone, and an edit counts for the next answer.
 #[test]
 fn the_nearest_decides(rt: HostRuntime) -> Result<(), Fail> {
-    both_say(
+    converses(
         &rt,
+        OPS,
+        RecordLimit::refusing(9),
         "\
 < policy 3; group all; service junos-exec local-user-name=all; refuse sshd/unknown; \
 group ops in all; service junos-exec local-user-name=ops; refuse PaloAlto/firewall; \

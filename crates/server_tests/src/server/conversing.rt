@@ -1,161 +1,113 @@
 //! Conversations with a server: events, and what it gives out at each.
 
-use crate::server::support::{packet, serving};
 use std::alloc::Global;
 use std::process::Abort;
 use std::test::Fail;
 use tac_desk::Desk;
 use tac_server::{Server, ServerFault};
+use tac_wire::Key;
 
-fn push_fault(out: &mut Vec<u8>, fault: ServerFault) -> Result<(), Fail> {
-    let words: &str = match fault {
-        ServerFault::NoConnection => "no connection\n",
-        ServerFault::AlreadyOpen => "already open\n",
-        ServerFault::Memory { accepted: false } => "memory\n",
-        ServerFault::Memory { accepted: true } => "accepted, then memory\n",
-    };
-    out.extend_from_slice(words.as_bytes())?;
-    Ok(())
+fn key() -> Result<Key, Fail> {
+    Ok(Key::read(b"k").ok_or("no key")?)
 }
 
-fn push_opened(out: &mut Vec<u8>, opened: Result<(), ServerFault>) -> Result<(), Fail> {
-    match opened {
-        Ok(()) => Ok(()),
-        Err(fault) => push_fault(out, fault),
-    }
+// A packet, as a client sends it.
+fn push_packet(alloc: Global, bytes: &mut Vec<u8>, digits: &str) -> Result<(), Fail> {
+    let packet = packet_notation::packet(alloc, &key()?, digits)?;
+    Ok(bytes.extend_from_slice(packet.as_slice())?)
 }
 
-fn push_heard(out: &mut Vec<u8>, heard: Result<bool, ServerFault>) -> Result<(), Fail> {
-    match heard {
-        Ok(true) => Ok(out.extend_from_slice(b"closed\n")?),
-        Ok(false) => Ok(()),
-        Err(fault) => push_fault(out, fault),
-    }
-}
-
-fn number(text: &str) -> Result<u32, Fail> {
-    match text.parse() {
-        Ok(number) => Ok(number),
-        Err(_) => Err(Fail::from("no number")),
-    }
-}
-
-// `NUMBER DIGITS DIGITS ..`: the packets come on a connection, joined.
+// `NUMBER DIGITS DIGITS ..`: the packets come on a connection, joined. Whether it is closed then.
 fn hand<D: Desk>(
     alloc: Global,
     server: &mut Server<D>,
     words: &str,
     out: &mut Vec<u8>,
-) -> Result<(), Fail> {
+) -> Result<Result<bool, ServerFault>, Fail> {
     let (conn, digits) = words.split_once(' ').unwrap_or((words, ""));
-    let conn = number(conn)?;
     let mut bytes = Vec::new(alloc);
     for word in digits.split(' ') {
-        let packet = packet(alloc, word)?;
-        bytes.extend_from_slice(packet.as_slice())?;
+        push_packet(alloc, &mut bytes, word)?;
     }
-    let heard = server.feed(conn, bytes.as_slice(), out);
-    push_heard(out, heard)
+    Ok(server.feed(conn.parse::<u32>()?, bytes.as_slice(), out))
 }
 
-// What the server gives out at an event.
-fn happen<D: Desk>(
+// What the server gives out at an event, and whether a connection is closed then.
+fn happens<D: Desk>(
+    alloc: Global,
+    server: &mut Server<D>,
+    words: &str,
+    out: &mut Vec<u8>,
+) -> Result<Result<bool, ServerFault>, Fail> {
+    match words.split_once(' ').unwrap_or((words, "")) {
+        ("open", conn) => Ok(server.open(conn.parse::<u32>()?).map(|()| false)),
+        ("lost", conn) => {
+            server.lost(conn.parse::<u32>()?);
+            Ok(Ok(false))
+        }
+        ("hand", rest) => hand(alloc, server, rest, out),
+        _ => Ok(server.console(words.as_bytes(), out).map(|()| false)),
+    }
+}
+
+// The same, with the line `closed` or why it was refused after that.
+fn push_event<D: Desk>(
     alloc: Global,
     server: &mut Server<D>,
     words: &str,
     out: &mut Vec<u8>,
 ) -> Result<(), Fail> {
-    match words.split_once(' ').unwrap_or((words, "")) {
-        ("open", conn) => {
-            let opened = server.open(number(conn)?);
-            push_opened(out, opened)
-        }
-        ("lost", conn) => {
-            server.lost(number(conn)?);
-            Ok(())
-        }
-        ("hand", rest) => hand(alloc, server, rest, out),
-        _ => {
-            let answered = server.console(words.as_bytes(), out);
-            push_opened(out, answered)
+    match happens(alloc, server, words, out)? {
+        Ok(false) => Ok(()),
+        Ok(true) => Ok(out.extend_from_slice(b"closed\n")?),
+        Err(fault) => {
+            let fault = format!(in alloc; "{fault:?}\n")?;
+            Ok(out.extend_from_slice(fault.as_bytes())?)
         }
     }
 }
 
-// What is wanted of the server: the bytes of a packet after `< `, else a line.
-fn want(alloc: Global, line: &str, wanted: &mut Vec<u8>) -> Result<(), Fail> {
-    match line.strip_prefix("< ") {
-        Some(digits) => {
-            let bytes = packet(alloc, digits)?;
-            wanted.extend_from_slice(bytes.as_slice())?;
-        }
-        None => {
-            wanted.extend_from_slice(line.as_bytes())?;
-            wanted.push(b'\n')?;
-        }
-    }
-    Ok(())
-}
-
-// What was given out, against what is wanted.
-#[derive(Drop)]
-struct Conversation<D: Desk> {
+// A line of a conversation: what is given out, and what is wanted. An event ends what is given out at
+// the one before.
+fn go_on<D: Desk>(
     alloc: Global,
-    server: Server<D>,
-    given: Vec<u8>,
-    wanted: Vec<u8>,
-}
-
-impl<D: Desk> Conversation<D> {
-    fn go_on<R: Abort>(&mut self, rt: &R, line: &str) -> Result<(), Fail> {
-        if line.is_empty() || line.starts_with('#') {
-            return Ok(());
-        }
-        match line.strip_prefix("> ") {
-            Some(words) => {
-                assert!(rt;
-                    self.given.as_slice() == self.wanted.as_slice(),
-                    "before {words}"
-                );
-                happen(self.alloc, &mut self.server, words, &mut self.given)
-            }
-            None => want(self.alloc, line, &mut self.wanted),
-        }
-    }
-}
-
-fn holds<R: Abort, D: Desk>(
-    rt: &R,
-    conversation: &mut Conversation<D>,
-    lines: &str,
+    server: &mut Server<D>,
+    line: &str,
+    given: &mut Vec<u8>,
+    wanted: &mut Vec<u8>,
 ) -> Result<(), Fail> {
-    for line in lines.lines() {
-        conversation.go_on(rt, line.trim_start())?;
+    if let Some(words) = line.strip_prefix("> ") {
+        given.push(b'\n')?;
+        wanted.push(b'\n')?;
+        return push_event(alloc, server, words, given);
     }
-    assert!(rt;
-        conversation.given.as_slice() == conversation.wanted.as_slice(),
-        "at the end"
-    );
-    Ok(())
+    if let Some(digits) = line.strip_prefix("< ") {
+        return push_packet(alloc, wanted, digits);
+    }
+    wanted.extend_from_slice(line.as_bytes())?;
+    Ok(wanted.push(b'\n')?)
 }
 
 /// Holds a conversation with a server over this desk.
 ///
 /// After `> ` stands an event: `open NUMBER`, `lost NUMBER`, `hand NUMBER DIGITS DIGITS ..` (the
 /// bytes of packets, on whose bodies the pad is put), or else a line of the console. After each
-/// comes what is given out: `< DIGITS`, a packet; `closed`, where a connection is; a refusal,
-/// `memory` among them; or the console's lines. A line that begins with `#` is a comment.
+/// comes what is given out: `< DIGITS`, a packet; `closed`, where a connection is; a refusal, as it is
+/// written in Rust; or the console's lines. A line that begins with `#` is a comment.
 pub(crate) fn converses<R: Abort + AllocGlobal, D: Desk>(
     rt: &R,
     desk: D,
     lines: &str,
 ) -> Result<(), Fail> {
-    let alloc = rt.alloc();
-    let mut conversation = Conversation {
-        alloc,
-        server: serving(alloc, desk)?,
-        given: Vec::new(alloc),
-        wanted: Vec::new(alloc),
-    };
-    holds(rt, &mut conversation, lines)
+    let mut server = Server::new(rt.alloc(), desk, key()?);
+    let (mut given, mut wanted) = (Vec::new(rt.alloc()), Vec::new(rt.alloc()));
+    for line in lines.lines() {
+        let line = line.trim_start();
+        if !line.is_empty() && !line.starts_with('#') {
+            go_on(rt.alloc(), &mut server, line, &mut given, &mut wanted)?;
+        }
+    }
+    let text = String::from_utf8_lossy(rt.alloc(), given.as_slice())?;
+    assert!(rt; given == wanted, "{text}");
+    Ok(())
 }

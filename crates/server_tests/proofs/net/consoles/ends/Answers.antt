@@ -1,7 +1,7 @@
 use denote.Param.Send.{sendable}
 use Rattle.std.proofs.Crossing.{crosses}
 use Rattle.server_tests.proofs.Crossing.{PlainDesk-send}
-use Rattle.server_tests.proofs.net.consoles.serves.Goals as goal
+use Rattle.server_tests.proofs.net.consoles.ends.Goals as goal
 
 pub serve-ended-requires-send-D : goal.serve-ended-requires-send-D
 serve-ended-requires-send-D g c κs within =

@@ -1,6 +1,0 @@
-use denote.Param.Send.{sendable}
-use Rattle.std.proofs.Crossing.{crosses}
-use Rattle.server_tests.proofs.net.workers.two_clients.Goals as goal
-
-pub all_served-requires-sync-G : goal.all_served-requires-sync-G
-all_served-requires-sync-G g c κs = search (crosses, sendable) depth 60 fits 20000

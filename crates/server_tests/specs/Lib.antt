@@ -1,2 +1,0 @@
--- The desks of the tests.
-pub mod Ledger
