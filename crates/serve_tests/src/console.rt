@@ -1,11 +1,8 @@
-//! Tests of the console of a shared desk: conversations with it, the order of its reads and writes,
-//! what its witness is told, and inputs and outputs that fail.
+//! Tests of the console of a shared desk: conversations with it, what its witness is told before a line
+//! is answered, and inputs and outputs that fail.
 
 mod ends;
 mod lines;
-mod reloads;
-pub(crate) mod shelf;
 mod streams;
 mod support;
-mod turns;
 mod witness;

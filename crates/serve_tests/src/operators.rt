@@ -1,5 +1,4 @@
-//! Tests of operators at a socket, who type lines and ask how a server is.
+//! Tests of operators at a socket who say nothing for long, and of how a server is.
 
 mod counts;
 mod lines;
-mod status;

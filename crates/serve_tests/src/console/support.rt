@@ -1,64 +1,80 @@
-//! What the tests share: shared desks, and conversations at their consoles.
+//! What the tests share: conversations at the console of a shared desk.
 
 ghost use Rattle.std.specs.Prelude.{◌≡◌};
 
-use crate::console::shelf::{Given, Shelf};
-use crate::console::streams::{Manner, Room, Typed};
-use crate::hall::shared::{NEVER, closes};
-use crate::hall::support::{OPS, desk_of};
+use crate::console::streams::{Manner, Printer, Scribe, Typed};
+use crate::hall::support::{OPS, closes, desk_of};
+use basics::Bytes;
 use std::alloc::{AllocError, Global};
+use std::cell::RefCell;
 use std::io::{Read, Write};
 use std::marker::Brand;
 use std::sync::Wait;
 use std::test::Fail;
-use tac_audit::{Nobody, Typing, Witness};
+use tac_audit::{Typing, Typist, Witness};
 use tac_desk::Desk;
 use tac_forum::{EmptyHistory, Limits, Run, Seat, SharedDesk};
 use tac_hall::{Call, HallFault};
-use tac_hall_console::{OperatorFault, operate};
+use tac_hall_console::{OperatorFault, Source, Unread, no_devices, operate};
+use tac_journal::Typists;
 
-/// The whole input at once.
-pub(crate) const WHOLE: Manner = Manner {
-    piece: 9999,
-    interrupted: false,
-    fails: false,
-};
+/// A source without a text and without devices, whose lines anyone types.
+struct Nothing;
 
-/// The limits of a shared desk, whether another seat has stopped it before its console begins, and
-/// what each `reload` and each `reload devices` finds.
+impl Typists for Nothing {
+    ghost use Rattle.std.specs.Prelude.{◌≡◌};
+    ghost use Rattle.tac_audit.specs.declared.event.Typist.TheVariants.{Anyone};
+
+    ghost names = { λ _ typist. typist ≡ Anyone };
+
+    fn typist(&self, _alloc: Global) -> Result<Typist, AllocError> {
+        Ok(Typist::Anyone)
+    }
+}
+
+impl Source for Nothing {
+    fn text(&self, _alloc: Global) -> Result<Vec<u8>, Unread> {
+        Err(Unread::Memory)
+    }
+
+    fn reload_devices(&self, alloc: Global) -> Result<Bytes, AllocError> {
+        no_devices(alloc)
+    }
+}
+
+// What happens at a console: the limits of its desk, whether another seat has stopped that before, how
+// its input comes, for how many bytes there is room, and what its witness is told.
 #[derive(Clone, Copy)]
-pub(crate) struct Course {
-    pub(crate) limits: Limits,
-    pub(crate) is_stopped: bool,
-    pub(crate) given: &'static [Given],
+struct Course<'a> {
+    limits: Limits,
+    is_stopped: bool,
+    manner: Manner,
+    room: usize,
+    // the line that the witness refuses; `-` where it isn't told any
+    refuses: &'a str,
 }
 
-/// How a console ended, and why a call of another seat is refused after that.
-#[derive(Drop)]
-pub(crate) struct Ended {
-    pub(crate) end: Result<(), OperatorFault>,
-    pub(crate) after: Option<HallFault>,
-}
+// How a console ended, and why a call of another seat is refused after that.
+type Ended = (Result<(), OperatorFault>, Option<HallFault>);
 
 // A console of a shared desk, whose other seat makes a Stop after it, and before it too if it is to
 // be stopped. Its seat comes back beside that.
 fn operates_at<J: Run, D: Desk, V: Witness<Typing>, I: Read, O: Write, R: Wait + AllocGlobal>(
     rt: &R,
     desk: &SharedDesk<J, D>,
-    course: Course,
+    is_stopped: bool,
     other: &mut Seat<J>,
     witness: &mut V,
     input: &mut I,
     output: &mut O,
 ) -> Result<(Seat<J>, Ended), Fail> {
-    if course.is_stopped && desk.call(rt, other, &Call::Stop).is_err() {
+    if is_stopped && desk.call(rt, other, &Call::Stop).is_err() {
         return Err(Fail::from("no stop"));
     }
     let seat = desk.seat(rt)?;
-    let shelf = Shelf::new(course.given);
-    let (seat, end) = operate(rt, desk, &shelf, seat, witness, input, output);
+    let (seat, end) = operate(rt, desk, &Nothing, seat, witness, input, output);
     let after = desk.call(rt, other, &Call::Stop).err();
-    Ok((seat, Ended { end, after }))
+    Ok((seat, (end, after)))
 }
 
 // The same at a new desk of this run, which is closed with both seats.
@@ -66,7 +82,7 @@ fn operates_of<J: Run, D: Desk, V: Witness<Typing>, I: Read, O: Write, R: Wait +
     rt: &R,
     history: EmptyHistory,
     desk: D,
-    course: Course,
+    course: Course<'_>,
     witness: &mut V,
     input: &mut I,
     output: &mut O,
@@ -77,31 +93,18 @@ fn operates_of<J: Run, D: Desk, V: Witness<Typing>, I: Read, O: Write, R: Wait +
     let desk: SharedDesk<J, D> = SharedDesk::new(history, desk, course.limits);
     let mut seats = Vec::with_capacity(rt.alloc(), 2)?;
     let mut other = desk.seat(rt)?;
-    let (seat, ended) = operates_at(rt, &desk, course, &mut other, witness, input, output)?;
+    let is_stopped = course.is_stopped;
+    let (seat, ended) = operates_at(rt, &desk, is_stopped, &mut other, witness, input, output)?;
     seats.push(seat)?;
     seats.push(other)?;
     closes(desk, seats)?;
     Ok(ended)
 }
 
-// The same in a run of its own.
-fn operates_new<D: Desk, V: Witness<Typing>, I: Read, O: Write, R: Wait + AllocGlobal>(
+// The same in a run of its own, at a desk at which bob may show things.
+fn operates<V: Witness<Typing>, I: Read, O: Write, R: Wait + AllocGlobal>(
     rt: &R,
-    desk: D,
-    course: Course,
-    witness: &mut V,
-    input: &mut I,
-    output: &mut O,
-) -> Result<Ended, Fail> {
-    let history = EmptyHistory::new(rt.alloc())?;
-    operates_of::<Brand, D, V, I, O, R>(rt, history, desk, course, witness, input, output)
-}
-
-/// Operates the console of a new shared desk, at which bob may show things, before a witness. At
-/// the end the desk is closed with the console's seat and the other one.
-pub(crate) fn operates<V: Witness<Typing>, I: Read, O: Write, R: Wait + AllocGlobal>(
-    rt: &R,
-    course: Course,
+    course: Course<'_>,
     witness: &mut V,
     input: &mut I,
     output: &mut O,
@@ -110,190 +113,138 @@ pub(crate) fn operates<V: Witness<Typing>, I: Read, O: Write, R: Wait + AllocGlo
     operates_new(rt, desk, course, witness, input, output)
 }
 
-// What a console wrote, and how it ended.
-#[derive(Drop)]
-struct Seen {
-    written: Vec<u8>,
-    ended: Ended,
+fn operates_new<D: Desk, V: Witness<Typing>, I: Read, O: Write, R: Wait + AllocGlobal>(
+    rt: &R,
+    desk: D,
+    course: Course<'_>,
+    witness: &mut V,
+    input: &mut I,
+    output: &mut O,
+) -> Result<Ended, Fail> {
+    let history = EmptyHistory::new(rt.alloc())?;
+    operates_of::<Brand, D, V, I, O, R>(rt, history, desk, course, witness, input, output)
 }
 
-// Operates such a console on these bytes, which come in this manner, with so much room for what is
-// written.
+// What is told and written on these bytes, one after another, and how the console ends.
 fn run<R: Wait + AllocGlobal>(
     rt: &R,
-    course: Course,
+    course: Course<'_>,
     text: &[u8],
-    manner: Manner,
-    room: usize,
-) -> Result<Seen, Fail> {
+) -> Result<(Vec<u8>, Ended), Fail> {
+    let notes = RefCell::new(Vec::new(rt.alloc()));
     let mut reader = Typed {
         text,
-        manner,
+        manner: course.manner,
         ready: false,
     };
-    let mut writer = Room {
-        left: room,
-        taken: Vec::new(rt.alloc()),
+    let mut witness = Scribe {
+        notes: &notes,
+        is_told: course.refuses != "-",
+        refuses: course.refuses.as_bytes(),
     };
-    let ended = operates(rt, course, &mut Nobody, &mut reader, &mut writer)?;
-    Ok(Seen {
-        written: writer.taken,
-        ended,
-    })
+    let mut writer = Printer {
+        notes: &notes,
+        left: course.room,
+    };
+    let ended = operates(rt, course, &mut witness, &mut reader, &mut writer)?;
+    Ok((notes.into_inner(), ended))
 }
 
+// A line, with its end unless a `~` stands there.
 fn push_line(out: &mut Vec<u8>, line: &str) -> Result<(), AllocError> {
-    out.extend_from_slice(line.as_bytes())?;
-    out.push(b'\n')?;
-    Ok(())
+    match line.strip_suffix('~') {
+        Some(line) => out.extend_from_slice(line.as_bytes()),
+        None => {
+            out.extend_from_slice(line.as_bytes())?;
+            Ok(out.push(b'\n')?)
+        }
+    }
 }
 
-// Adds the lines after `> ` to what is typed, and all others to what is printed.
-fn push_parts(typed: &mut Vec<u8>, printed: &mut Vec<u8>, talk: &str) -> Result<(), AllocError> {
+// The lines after `> `, and all others: what is typed, and what is told and printed.
+fn parts(alloc: Global, talk: &str) -> Result<(Vec<u8>, Vec<u8>), AllocError> {
+    let (mut typed, mut printed) = (Vec::new(alloc), Vec::new(alloc));
     for line in talk.lines() {
         let line = line.trim_start();
         match line.strip_prefix("> ") {
-            Some(command) => push_line(typed, command)?,
-            None => {
-                if !line.is_empty() {
-                    push_line(printed, line)?;
-                }
-            }
+            Some(command) => push_line(&mut typed, command)?,
+            None if line.is_empty() => {}
+            None => push_line(&mut printed, line)?,
         }
     }
-    Ok(())
-}
-
-// The lines after `> `, and all others: what is typed, and what is printed.
-fn parts<R: AllocGlobal>(rt: &R, talk: &str) -> Result<(Vec<u8>, Vec<u8>), Fail> {
-    let mut typed = Vec::new(rt.alloc());
-    let mut printed = Vec::new(rt.alloc());
-    push_parts(&mut typed, &mut printed, talk)?;
     Ok((typed, printed))
 }
 
-// A failure that says what was seen.
-fn fail<R: AllocGlobal>(rt: &R, seen: &Seen) -> Fail {
-    let written = String::from_utf8_lossy(rt.alloc(), seen.written.as_slice());
-    let Ended { end, after } = &seen.ended;
-    match written {
-        Ok(written) => match format!(in rt.alloc(); "{written}{end:?}, then {after:?}") {
-            Ok(text) => Fail::from(text),
-            Err(error) => Fail::from(error),
-        },
-        Err(error) => Fail::from(error),
-    }
-}
-
-/// What a console has to write, how it has to end, and why a call has to be refused then.
-#[derive(Clone, Copy)]
-pub(crate) struct Wanted<'a> {
-    pub(crate) written: &'a [u8],
-    pub(crate) end: Result<(), OperatorFault>,
-    pub(crate) after: HallFault,
-}
-
-fn is_wanted(seen: &Seen, wanted: Wanted<'_>) -> bool {
-    let is_end = seen.ended.end == wanted.end && seen.ended.after == Some(wanted.after);
-    is_end && seen.written.as_slice() == wanted.written
-}
-
-/// The console of a new shared desk, on these bytes in this manner, with so much room.
-pub(crate) fn types<R: Wait + AllocGlobal>(
+// On the lines that are typed all others are told and printed, and the console ends so.
+fn types<R: Wait + AllocGlobal>(
     rt: &R,
-    course: Course,
-    typed: &[u8],
-    manner: Manner,
-    room: usize,
-    wanted: Wanted<'_>,
+    course: Course<'_>,
+    talk: &str,
+    end: &str,
 ) -> Result<(), Fail> {
-    let seen = run(rt, course, typed, manner, room)?;
-    if is_wanted(&seen, wanted) {
-        Ok(())
+    let (typed, wanted) = parts(rt.alloc(), talk)?;
+    let (notes, (ended, after)) = run(rt, course, typed.as_slice())?;
+    let came = format!(in rt.alloc(); "{ended:?} {after:?}")?;
+    if notes == wanted && came.as_str() == end {
+        return Ok(());
+    }
+    let notes = String::from_utf8_lossy(rt.alloc(), notes.as_slice())?;
+    Err(Fail::from(format!(in rt.alloc(); "{notes}{came}")?))
+}
+
+fn number(word: Option<&str>) -> Result<usize, Fail> {
+    Ok(word.ok_or("no number")?.parse::<usize>()?)
+}
+
+// However the input comes, or as the first line says.
+fn talks<R: Wait + AllocGlobal>(rt: &R, head: &str, talk: &str) -> Result<(), Fail> {
+    let (head, end) = head.split_once(" = ").unwrap_or((head, ""));
+    let (head, refuses) = head.split_once(": ").unwrap_or((head, ""));
+    let mut words = head.split(' ');
+    let calls = number(words.nth(1))?;
+    let rotate_at = number(words.nth(1))?;
+    let room = number(words.nth(1))?;
+    let manner = words.next().unwrap_or("");
+    let pieces = if manner == "half" {
+        [13; 4]
     } else {
-        Err(fail(rt, &seen))
-    }
-}
-
-// However the input comes.
-fn types_in_pieces<R: Wait + AllocGlobal>(
-    rt: &R,
-    course: Course,
-    typed: &[u8],
-    wanted: Wanted<'_>,
-) -> Result<(), Fail> {
-    for piece in [9999, 1, 2, 3] {
-        let manner = Manner {
-            piece,
-            interrupted: piece == 2,
-            fails: false,
+        [9999, 1, 2, 3]
+    };
+    for piece in pieces {
+        let course = Course {
+            limits: Limits { calls, rotate_at },
+            is_stopped: manner == "stopped",
+            manner: Manner {
+                piece,
+                interrupted: piece == 2,
+                fails: manner == "fails",
+            },
+            room,
+            refuses,
         };
-        types(rt, course, typed, manner, 9999, wanted)?;
+        types(rt, course, talk, end)?;
     }
     Ok(())
 }
 
-// The lines after `> ` are typed at the console of a shared desk of these limits; then all others
-// are printed, and a call is refused so. However the input comes.
-fn talks<R: Wait + AllocGlobal>(
-    rt: &R,
-    limits: Limits,
-    given: &'static [Given],
-    talk: &str,
-    after: HallFault,
-) -> Result<(), Fail> {
-    let (typed, printed) = parts(rt, talk)?;
-    let course = Course {
-        limits,
-        is_stopped: false,
-        given,
-    };
-    let wanted = Wanted {
-        written: printed.as_slice(),
-        end: Ok(()),
-        after,
-    };
-    types_in_pieces(rt, course, typed.as_slice(), wanted)
-}
-
-/// The lines after `> ` are typed at the console of a shared desk of these limits; then all others
-/// are printed, and the desk is stopped. However the input comes.
-pub(crate) fn converses<R: Wait + AllocGlobal>(
-    rt: &R,
-    limits: Limits,
-    talk: &str,
-) -> Result<(), Fail> {
-    talks(rt, limits, &[], talk, HallFault::Closed)
-}
-
-/// The same where the log has no place for the Stop, so that the desk isn't stopped.
-pub(crate) fn fills<R: Wait + AllocGlobal>(rt: &R, limits: Limits, talk: &str) -> Result<(), Fail> {
-    talks(rt, limits, &[], talk, HallFault::LogFull)
-}
-
-/// A conversation in which each `reload` and each `reload devices` finds one of these, in their
-/// order, at a shared desk whose log is never full.
-pub(crate) fn reloads<R: Wait + AllocGlobal>(
-    rt: &R,
-    given: &'static [Given],
-    talk: &str,
-) -> Result<(), Fail> {
-    let limits = Limits {
-        calls: 999,
-        rotate_at: NEVER,
-    };
-    talks(rt, limits, given, talk, HallFault::Closed)
-}
-
-/// The same where the log takes two calls, and has no place for the Stop.
-pub(crate) fn reloads_in_two<R: Wait + AllocGlobal>(
-    rt: &R,
-    given: &'static [Given],
-    talk: &str,
-) -> Result<(), Fail> {
-    let limits = Limits {
-        calls: 2,
-        rotate_at: NEVER,
-    };
-    talks(rt, limits, given, talk, HallFault::LogFull)
+/// Holds conversations, each at the console of a new shared desk at which bob may show things. A
+/// paragraph is one. Its first line is
+///
+///     calls CALLS next CALLS room BYTES MANNER: LINE = END AFTER
+///
+/// for how many calls the log takes, before which one of a segment the next begins, and for how many
+/// bytes there is room; how the input comes: `whole`, which is in pieces of several sizes too, `fails`,
+/// the same before a read that fails, `half`, of which the first 13 bytes come first, or `stopped`, as
+/// `whole` at a desk that was stopped; the line that the witness refuses, or `-` where it is told
+/// none; how the console ends, and why a call of another seat is refused then, as Rust writes it.
+///
+/// Lines after `> ` are typed, and all others printed; `* LINE [ANSWER]` is told to the witness, and so
+/// is `! LINE [ANSWER]`, which it refuses. A `~` stands where a line has no end.
+pub(crate) fn converses<R: Wait + AllocGlobal>(rt: &R, text: &str) -> Result<(), Fail> {
+    for paragraph in text.split("\n\n") {
+        let paragraph = paragraph.trim_start();
+        let (head, talk) = paragraph.split_once('\n').unwrap_or((paragraph, ""));
+        talks(rt, head, talk)?;
+    }
+    Ok(())
 }

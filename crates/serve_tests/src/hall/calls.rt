@@ -1,221 +1,246 @@
-//! What calls are answered, and when they are refused.
+//! What calls are answered, when they are refused, and where each stands.
 
-use crate::hall::support::{DENYING, Kept, OPS, closes_with, converses, hall_of, seats_after};
+use crate::hall::shared::{Talk, shares};
+use crate::hall::starved::Starved;
+use crate::hall::support::{OPS, converses, desk_of};
+use pol_text::Policy;
 use std::sync::Wait;
 use std::test::Fail;
+use tac_forum::Limits;
+use tac_hall::Hall;
 
-// A conversation at a hall whose log takes so many calls, and then the hall is closed: it was in
-// its first segment, and has kept exactly these calls.
-fn keeps<R: Wait + AllocGlobal>(
+fn number(word: Option<&str>) -> Result<usize, Fail> {
+    Ok(word.ok_or("no number")?.parse::<usize>()?)
+}
+
+// `hall CALLS` or `desk CALLS NEXT`: a hall or a shared desk whose log takes so many calls, and before
+// which call of a segment the next begins. Before either may stand `starved`: a desk without memory.
+fn talks_at<R: Wait + AllocGlobal>(
     rt: &R,
-    limit: usize,
-    talk: &str,
+    head: &'static str,
     lines: &'static str,
 ) -> Result<(), Fail> {
-    let kept = Kept {
-        number: 0,
-        base: OPS,
-        lines,
-        policy: DENYING,
+    let alloc = rt.alloc();
+    let (is_starved, head) = match head.strip_prefix("starved ") {
+        Some(head) => (true, head),
+        None => (false, head),
     };
-    let hall = hall_of(rt, OPS, limit)?;
-    let seats = seats_after(rt, &hall, 2, talk)?;
-    closes_with(rt.alloc(), hall, seats, &kept)
+    let is_hall = head.starts_with("hall");
+    let mut numbers = head.split(' ');
+    let calls = number(numbers.nth(1))?;
+    if is_hall && is_starved {
+        let desk = Starved::new(alloc, Policy::read(alloc, OPS.as_bytes())?)?;
+        return converses(rt, Hall::new(rt, desk, calls)?, lines);
+    }
+    if is_hall {
+        return converses(rt, Hall::new(rt, desk_of(alloc, OPS)?, calls)?, lines);
+    }
+    let rotate_at = number(numbers.next())?;
+    let limits = Limits { calls, rotate_at };
+    if is_starved {
+        let desk = Starved::new(alloc, Policy::read(alloc, OPS.as_bytes())?)?;
+        return shares(rt, desk, Talk { limits, lines });
+    }
+    shares(rt, desk_of(alloc, OPS)?, Talk { limits, lines })
 }
 
-// A call that the log has no place for stands nowhere, and does nothing.
-#[test]
-fn a_full_log_has_exactly_its_calls(rt: HostRuntime) -> Result<(), Fail> {
-    keeps(
-        &rt,
-        2,
-        "
-        1 run bob show version = 0:0 permitted
-        0 insert group ops 1 deny show .* = 0:1 changes 1
-        0 remove user bob = 1 LogFull
-        ",
-        "
-        1 run bob show version = permitted
-        0 insert group ops 1 deny show .* = changes 1
-        ",
-    )?;
-    keeps(
-        &rt,
-        3,
-        "
-        1 run bob show version = 0:0 permitted
-        0 insert group ops 1 deny show .* = 0:1 changes 1
-        1 run bob show version = 0:2 denied by group ops rule 1
-        0 remove user bob = 1 LogFull
-        ",
-        "
-        1 run bob show version = permitted
-        0 insert group ops 1 deny show .* = changes 1
-        1 run bob show version = denied by group ops rule 1
-        ",
-    )
+// Conversations, a paragraph each, whose first line says at what.
+fn all_talk<R: Wait + AllocGlobal>(rt: &R, text: &'static str) -> Result<(), Fail> {
+    for paragraph in text.split("\n\n") {
+        let paragraph = paragraph.trim();
+        let (head, lines) = paragraph.split_once('\n').unwrap_or((paragraph, ""));
+        talks_at(rt, head, lines)?;
+    }
+    Ok(())
 }
 
+// A call that the log has no place for stands nowhere, and does nothing; a Stop is the last.
 #[test]
-fn a_log_of_three_calls(rt: HostRuntime) -> Result<(), Fail> {
-    converses(
+fn at_a_hall(rt: HostRuntime) -> Result<(), Fail> {
+    all_talk(
         &rt,
-        3,
         "
+        hall 3
         1 run bob show version = 0:0 permitted
-        0 insert group ops 1 deny show .* = 0:1 changes 1
-        1 batch = 0:2 changes 0
+        0 insert group ops 1 deny show .* = 0:1 done
+        1 batch = 0:2 done
         1 run bob show version = 1 LogFull
         1 batch = 1 LogFull
         0 stop = 1 LogFull
-        ",
-        3,
-    )
-}
 
-#[test]
-fn edits_count_for_the_other_seat(rt: HostRuntime) -> Result<(), Fail> {
-    converses(
-        &rt,
-        5,
-        "
+        hall 5
         1 run bob show version = 0:0 permitted
-        0 insert group ops 1 deny show .* = 0:1 changes 1
-        1 run bob show version = 0:2 denied by group ops rule 1
-        0 batch insert group ops 1 permit ping; drop group ops 2 = 0:3 changes 1
+        0 insert group ops 1 deny show .* = 0:1 done
+        1 run bob show version = 0:2 denied
+        0 batch insert group ops 1 permit ping; drop group ops 2 = 0:3 done
         1 run bob show version = 0:4 permitted
-        ",
-        5,
-    )
-}
 
-#[test]
-fn another_policy_counts_for_the_other_seat(rt: HostRuntime) -> Result<(), Fail> {
-    converses(
-        &rt,
-        6,
-        "
+        hall 6
         1 run bob show version = 0:0 permitted
         1 record bob 7 = 0:1 stored
-        0 load group ops; permit ping; deny .*; user eve in ops; user bob in ops = 0:2 changes 2
-        1 run bob show version = 0:3 denied by group ops rule 2
+        0 load group ops; permit ping; deny .*; user eve in ops; user bob in ops = 0:2 done
+        1 run bob show version = 0:3 denied
         1 run bob ping = 0:4 permitted
         0 load group ops; deny .*a..............; user bob in ops = 0:5 refused 11 TooManyStates group ops
         1 load group ops = 1 LogFull
-        ",
-        6,
-    )
-}
 
-#[test]
-fn logins_are_answered_by_the_desk(rt: HostRuntime) -> Result<(), Fail> {
-    converses(
-        &rt,
-        9,
-        "
+        hall 9
         1 pass bob blue-lake = 0:0 fail
-        0 login bob blue-lake = 0:1 changes 0
+        0 login bob blue-lake = 0:1 done
         1 pass bob blue-lake = 0:2 pass
         1 pass bob red-lake = 0:3 fail
-        1 pass eve blue-lake = 0:4 fail
-        ",
-        5,
-    )
-}
 
-// What the desk says of services before edits and after them. The caller, the view and the log each
-// have it.
-const SERVICES: &str = "
-    0 serve bob junos-exec = 0:0 unserved
-    1 service group ops junos-exec local-user-name=ops = 0:1 changes 0
-    1 service group ops junos-exec allow-commands=show .* = 0:2 changes 0
-    0 serve bob junos-exec = 0:3 granted 'local-user-name=ops' 'allow-commands=show .*'
-    1 serve bob junos-exec ip = 0:4 unserved
-    1 refuse user bob ppp/ip = 0:5 changes 0
-    0 serve bob ppp ip = 0:6 refused by user bob
-    1 insert group ops 1 permit () = 0:7 changes 1
-    0 run bob = 0:8 permitted
-    1 service group ops shell shell:roles*admin = 0:9 changes 0
-    1 priv group ops 15 = 0:10 changes 0
-    0 run bob = 0:11 granted 'priv-lvl=15' 'shell:roles*admin'
-    0 run bob show version = 0:12 permitted
-    1 serve bob junos-exec = 1 LogFull
-";
-
-const SERVED: Kept = Kept {
-    number: 0,
-    base: OPS,
-    lines: "
-        0 serve bob junos-exec = unserved
-        1 service group ops junos-exec local-user-name=ops = changes 0
-        1 service group ops junos-exec allow-commands=show .* = changes 0
-        0 serve bob junos-exec = granted 'local-user-name=ops' 'allow-commands=show .*'
-        1 serve bob junos-exec ip = unserved
-        1 refuse user bob ppp/ip = changes 0
-        0 serve bob ppp ip = refused by user bob
-        1 insert group ops 1 permit () = changes 1
-        0 run bob = permitted
-        1 service group ops shell shell:roles*admin = changes 0
-        1 priv group ops 15 = changes 0
-        0 run bob = granted 'priv-lvl=15' 'shell:roles*admin'
-        0 run bob show version = permitted
-    ",
-    policy: "policy 3\ngroup ops\npriv 15\nservice junos-exec local-user-name=ops\n\
-        service junos-exec allow-commands=show .*\nservice shell shell:roles*admin\n\
-        permit ()\npermit show .*\nuser bob in ops\nrefuse ppp/ip\n",
-};
-
-#[test]
-fn services_are_answered_by_the_desk(rt: HostRuntime) -> Result<(), Fail> {
-    let hall = hall_of(&rt, OPS, 13)?;
-    let seats = seats_after(&rt, &hall, 2, SERVICES)?;
-    closes_with(rt.alloc(), hall, seats, &SERVED)
-}
-
-#[test]
-fn records_are_stored_by_the_desk(rt: HostRuntime) -> Result<(), Fail> {
-    converses(
-        &rt,
-        3,
-        "
-        0 record bob 7 = 0:0 stored
-        1 record bob 7 = 0:1 stored
-        0 record bob 8 = 0:2 stored
-        1 record bob 8 = 1 LogFull
-        ",
-        3,
-    )
-}
-
-#[test]
-fn refused_edits_stand_in_the_log(rt: HostRuntime) -> Result<(), Fail> {
-    converses(
-        &rt,
-        9,
-        "
+        hall 9
         0 remove user eve = 0:0 refused 2 NoSuch
-        1 records = 0:1 report
+        1 records = 0:1 done
         0 batch add group net; drop group ops 2 = 0:2 refused at edit 2: 7 BadIndex
         0 run bob show version = 0:3 permitted
-        1 insert group ops 1 deny show .* = 0:4 changes 1
-        0 batch add group net; drop group ops 2 = 0:5 changes 0
-        1 add group net = 0:6 refused 3 Exists
-        ",
-        7,
-    )
-}
+        1 add group net = 0:4 done
+        1 add group net = 0:5 refused 3 Exists
 
-#[test]
-fn a_stop_is_the_last_call(rt: HostRuntime) -> Result<(), Fail> {
-    converses(
-        &rt,
-        2,
-        "
+        hall 2
         0 run bob show version = 0:0 permitted
         1 stop = 0:1 stopped
         0 run bob show version = 3 Closed
         1 stop = 3 Closed
         ",
-        2,
+    )
+}
+
+// A full log takes no call, and after a rotation it does; after a Stop nothing is done. The next segment
+// begins before the third call of one, by whichever seat; a rotation in between begins one as well.
+#[test]
+fn at_a_shared_desk(rt: HostRuntime) -> Result<(), Fail> {
+    all_talk(
+        &rt,
+        "
+        desk 2 9999
+        1 run bob show version = 0:0 permitted
+        0 insert group ops 1 deny show .* = 0:1 done
+        0 remove user bob = 1 LogFull
+        1 batch = 1 LogFull
+        0 stop = 1 LogFull
+        0 rotate = 0 of 2
+        1 run bob show version = 1:0 denied
+        0 stop = 1:1 stopped
+        1 run bob show version = 3 Closed
+        1 rotate = 3 Closed
+
+        desk 9 3
+        0 run bob show version = 0:0 permitted
+        1 records = 0:1 done
+        0 run bob show version = 1:0 permitted
+        1 rotate = 1 of 1
+        1 rotate = 2 of 0
+        0 record bob t1 = 3:0 stored
+        0 load group ops; user bob in ops = 3:1 done
+        1 run bob show version = 4:0 denied
+        0 pass bob secret = 4:1 fail
+        1 stop = 5:0 stopped
+        ",
+    )
+}
+
+// A full log is rotated, an empty one too, but none with a Stop. Each segment joins the one before: its
+// base is what that ended with. A seat has to have shed the earlier segments first, unless it has no
+// calls there; one without any calls sheds all.
+#[test]
+fn rotations_of_a_hall(rt: HostRuntime) -> Result<(), Fail> {
+    all_talk(
+        &rt,
+        "
+        hall 2
+        1 run bob show version = 0:0 permitted
+        0 insert group ops 1 deny show .* = 0:1 done
+        1 run bob show version = 1 LogFull
+        0 rotate = 0 of 2
+        1 run bob show version = 1:0 denied
+        0 shed 0 = true
+        1 shed 0 = true
+        1 shed 0 = false
+
+        hall 9
+        0 run bob show version = 0:0 permitted
+        0 insert group ops 1 deny show .* = 0:1 done
+        0 rotate = 0 of 2
+        0 run bob show version = 1:0 denied
+        1 rotate = 1 of 1
+        0 rotate = 2 of 0
+        0 joins 0 1 = true
+        0 joins 1 2 = true
+        0 joins 0 2 = false
+        0 joins 1 0 = false
+        0 shed 1 = false
+        0 shed 2 = false
+        1 shed 1 = true
+        0 shed 0 = true
+        0 shed 0 = false
+        0 shed 2 = false
+        0 shed 1 = true
+        0 shed 2 = true
+        0 shed 2 = true
+        0 run bob show version = 3:0 denied
+
+        hall 1
+        0 rotate = 0 of 0
+        0 stop = 1:0 stopped
+        1 rotate = 3 Closed
+        ",
+    )
+}
+
+// Edits and a question without memory are answered so, as others are answered. A record is refused, after
+// what else refuses it, and the next call stands where it would have stood, nor has a segment begun for
+// it. A rotation of a hall that has no memory leaves the log as it was; a shared desk, which keeps none,
+// is rotated even so.
+#[test]
+fn without_memory(rt: HostRuntime) -> Result<(), Fail> {
+    all_talk(
+        &rt,
+        "
+        starved hall 6
+        0 insert group ops 1 deny show .* = 0:0 refused 12 Memory
+        1 records = 0:1 refused 12 Memory
+        1 batch add group net; insert group net 1 permit ping = 0:2 refused 12 Memory
+        0 load group ops; user bob in ops = 0:3 refused 12 Memory
+        1 run bob show version = 0:4 permitted
+        0 record bob 7 = 2 Memory
+        1 run bob show version = 0:5 permitted
+        0 record bob 7 = 1 LogFull
+
+        starved hall 3
+        0 rotate = 0 of 0
+        0 run bob show version = 1:0 permitted
+        0 rotate = 2 Memory
+        1 run bob show version = 1:1 permitted
+        0 stop = 1:2 stopped
+        0 rotate = 3 Closed
+        1 record bob 7 = 3 Closed
+
+        starved desk 5 9999
+        0 record bob 7 = 2 Memory
+        0 run bob show version = 0:0 permitted
+        0 record bob 7 = 2 Memory
+        1 record bob 8 = 2 Memory
+        1 insert group ops 1 deny show .* = 0:1 refused 12 Memory
+        0 records = 0:2 refused 12 Memory
+        1 run bob show version = 0:3 permitted
+        0 rotate = 0 of 4
+        0 record bob 7 = 2 Memory
+        0 stop = 1:0 stopped
+        1 record bob 7 = 3 Closed
+
+        starved desk 5 2
+        0 run bob show version = 0:0 permitted
+        0 record bob 7 = 2 Memory
+        1 rotate = 0 of 1
+        1 run bob show version = 1:0 permitted
+        1 record bob 7 = 2 Memory
+        0 run bob show version = 2:0 permitted
+
+        starved desk 1 9999
+        1 run bob show version = 0:0 permitted
+        0 record bob 7 = 1 LogFull
+        ",
     )
 }

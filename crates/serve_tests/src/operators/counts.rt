@@ -1,13 +1,10 @@
 //! What is counted of connections, and the lines that tell how a server is.
 
 use std::alloc::Global;
-use std::process::Abort;
 use std::test::Fail;
-use tac_status::{
-    ConnectionCounts, Counts, Departure, Present, Rejection, resident_bytes, status_text,
-};
+use tac_status::{Counts, Departure, Present, Rejection, resident_bytes, status_text};
 
-fn present() -> Present {
+fn present(has_proxy: bool) -> Present {
     Present {
         version: "1.2.3",
         uptime: 4,
@@ -15,7 +12,7 @@ fn present() -> Present {
         workers: 6,
         connections_limit: 7,
         devices: 8,
-        has_proxy: false,
+        has_proxy,
         records_limit: 9,
         has_log: true,
         log_takes_lines: false,
@@ -23,7 +20,30 @@ fn present() -> Present {
     }
 }
 
-/// The lines of a server to which nothing has happened.
+// Connections that came and have ended, one by the first fate, two by the next, and so on, and one more
+// that is there. So some were rejected.
+fn counts() -> Counts {
+    let counts = Counts::new();
+    let mut many = 1_u64;
+    for departure in Departure::ALL {
+        for _ in 0..many {
+            counts.connections.accept();
+            counts.connections.end(departure);
+        }
+        many = many.saturating_add(1);
+    }
+    many = 1;
+    for rejection in Rejection::ALL {
+        for _ in 0..many {
+            counts.connections.reject(rejection);
+        }
+        many = many.saturating_add(1);
+    }
+    counts.connections.accept();
+    counts
+}
+
+/// The lines of a server of which this is counted.
 const TOLD: &str = "# HELP tacd_info The version that serves.
 # TYPE tacd_info gauge
 tacd_info{version=\"1.2.3\"} 1
@@ -38,35 +58,39 @@ tacd_memory_bytes 5
 tacd_workers 6
 # HELP tacd_connections Connections that are there now.
 # TYPE tacd_connections gauge
-tacd_connections 0
+tacd_connections 1
 # HELP tacd_connections_limit How many there may be at once.
 # TYPE tacd_connections_limit gauge
 tacd_connections_limit 7
 # HELP tacd_connections_accepted_total Connections that a worker took.
 # TYPE tacd_connections_accepted_total counter
-tacd_connections_accepted_total 0
+tacd_connections_accepted_total 92
 # HELP tacd_connections_ended_total Connections that were served and have ended.
 # TYPE tacd_connections_ended_total counter
-tacd_connections_ended_total{why=\"finished\"} 0
-tacd_connections_ended_total{why=\"unlisted\"} 0
-tacd_connections_ended_total{why=\"protocol\"} 0
-tacd_connections_ended_total{why=\"idle\"} 0
-tacd_connections_ended_total{why=\"login_idle\"} 0
-tacd_connections_ended_total{why=\"not_taken\"} 0
-tacd_connections_ended_total{why=\"packet_memory\"} 0
-tacd_connections_ended_total{why=\"read\"} 0
-tacd_connections_ended_total{why=\"write\"} 0
-tacd_connections_ended_total{why=\"log\"} 0
-tacd_connections_ended_total{why=\"hashing\"} 0
-tacd_connections_ended_total{why=\"memory\"} 0
-tacd_connections_ended_total{why=\"server\"} 0
+tacd_connections_ended_total{why=\"finished\"} 1
+tacd_connections_ended_total{why=\"unlisted\"} 2
+tacd_connections_ended_total{why=\"protocol\"} 3
+tacd_connections_ended_total{why=\"idle\"} 4
+tacd_connections_ended_total{why=\"login_idle\"} 5
+tacd_connections_ended_total{why=\"not_taken\"} 6
+tacd_connections_ended_total{why=\"packet_memory\"} 7
+tacd_connections_ended_total{why=\"read\"} 8
+tacd_connections_ended_total{why=\"write\"} 9
+tacd_connections_ended_total{why=\"log\"} 10
+tacd_connections_ended_total{why=\"hashing\"} 11
+tacd_connections_ended_total{why=\"memory\"} 12
+tacd_connections_ended_total{why=\"server\"} 13
 # HELP tacd_connections_refused_total Connections closed as soon as they came.
 # TYPE tacd_connections_refused_total counter
-tacd_connections_refused_total{why=\"unknown_device\"} 0
-tacd_connections_refused_total{why=\"at_once\"} 0
-tacd_connections_refused_total{why=\"per_address\"} 0
-tacd_connections_refused_total{why=\"served\"} 0
-tacd_connections_refused_total{why=\"memory\"} 0
+tacd_connections_refused_total{why=\"unknown_device\"} 1
+tacd_connections_refused_total{why=\"no_key\"} 2
+tacd_connections_refused_total{why=\"no_tls\"} 3
+tacd_connections_refused_total{why=\"other_certificate\"} 4
+tacd_connections_refused_total{why=\"bad_proxy_header\"} 5
+tacd_connections_refused_total{why=\"at_once\"} 6
+tacd_connections_refused_total{why=\"per_address\"} 7
+tacd_connections_refused_total{why=\"served\"} 8
+tacd_connections_refused_total{why=\"memory\"} 9
 # HELP tacd_devices Devices that are listed; 0 where one key is for all.
 # TYPE tacd_devices gauge
 tacd_devices 8
@@ -114,49 +138,32 @@ tacd_log_takes_lines 0
 tacd_operators 10
 ";
 
+fn is_told(text: &[u8], wanted: &str) -> bool {
+    text == wanted.as_bytes()
+}
+
+// Each fate is counted under its own name.
 #[test]
 fn all_lines_are_told(rt: HostRuntime) -> Result<(), Fail> {
-    let text = status_text(rt.alloc(), &Counts::new(), &present())?;
-    assert!(rt; text.as_slice() == TOLD.as_bytes());
+    let text = status_text(rt.alloc(), &counts(), &present(false))?;
+    assert!(rt; is_told(text.as_slice(), TOLD));
     Ok(())
 }
 
-// The numbers of a server's connections, each beside what is counted there alone.
-fn has_counted<R: Abort>(rt: &R, counts: &ConnectionCounts, wanted: [u64; 4]) {
-    let mut ended = 0_u64;
-    for departure in Departure::ALL {
-        ended = ended.saturating_add(counts.ended(departure));
-    }
-    let mut rejected = 0_u64;
-    for rejection in Rejection::ALL {
-        rejected = rejected.saturating_add(counts.rejected(rejection));
-    }
-    let told = [counts.accepted(), counts.open(), ended, rejected];
-    assert_eq!(rt; told, wanted);
+// Whether the refusals of proxies are among the lines.
+fn tells_of_proxies(alloc: Global, counts: &Counts, has_proxy: bool) -> Result<bool, Fail> {
+    let text = status_text(alloc, counts, &present(has_proxy))?;
+    Ok(str::from_utf8(text.as_slice())?.contains("no_key"))
 }
 
-// Each fate is counted once, under its own name.
+// They are where there is a socket for a proxy, or where one of them isn't 0.
 #[test]
-fn each_connection_counts_once(rt: HostRuntime) -> Result<(), Fail> {
-    let counts = ConnectionCounts::new();
-    has_counted(&rt, &counts, [0, 0, 0, 0]);
-    let mut many = 0_u64;
-    for departure in Departure::ALL {
-        counts.accept();
-        let accepted = many.saturating_add(1);
-        has_counted(&rt, &counts, [accepted, 1, many, 0]);
-        counts.end(departure);
-        many = accepted;
-        has_counted(&rt, &counts, [many, 0, many, 0]);
-        assert_eq!(rt; counts.ended(departure), 1, "{departure:?}");
-    }
-    let mut rejected = 0_u64;
-    for rejection in Rejection::ALL {
-        counts.reject(rejection);
-        rejected = rejected.saturating_add(1);
-        has_counted(&rt, &counts, [many, 0, many, rejected]);
-        assert_eq!(rt; counts.rejected(rejection), 1, "{rejection:?}");
-    }
+fn refusals_of_proxies(rt: HostRuntime) -> Result<(), Fail> {
+    let (alloc, counts) = (rt.alloc(), Counts::new());
+    let is_silent = !tells_of_proxies(alloc, &counts, false)?;
+    let is_told = tells_of_proxies(alloc, &counts, true)?;
+    counts.connections.reject(Rejection::NoTls);
+    assert!(rt; is_silent && is_told && tells_of_proxies(alloc, &counts, false)?);
     Ok(())
 }
 
@@ -164,38 +171,10 @@ fn each_connection_counts_once(rt: HostRuntime) -> Result<(), Fail> {
 #[test]
 fn the_memory_of_a_process(rt: HostRuntime) -> Result<(), Fail> {
     let status = b"Name:\ttacd\nVmSize:\t   90000 kB\nVmRSS:\t   47104 kB\nRssAnon:\t    7 kB\n";
-    assert_eq!(rt; resident_bytes(status), 48_234_496);
-    assert_eq!(rt; resident_bytes(b"VmRSS:\t1 kB\n"), 1_024);
-    assert_eq!(rt; resident_bytes(b"VmSize:\t1 kB\nVmRSS: 1"), 0);
-    assert_eq!(rt; resident_bytes(b""), 0);
-    Ok(())
-}
-
-// The lines of a server that knows of proxies, and closed so many connections of a device without
-// a key.
-fn told_of_proxies(alloc: Global, no_key: u64) -> Result<String, Fail> {
-    let next = "tacd_connections_refused_total{why=\"at_once\"}";
-    let (before, after) = TOLD.split_once(next).ok_or("no such line")?;
-    Ok(format!(in alloc;
-        "{before}\
-tacd_connections_refused_total{{why=\"no_key\"}} {no_key}
-tacd_connections_refused_total{{why=\"no_tls\"}} 0
-tacd_connections_refused_total{{why=\"other_certificate\"}} 0
-tacd_connections_refused_total{{why=\"bad_proxy_header\"}} 0
-{next}{after}"
-    )?)
-}
-
-// They are told where there is a socket for a proxy, or where one of them isn't 0.
-#[test]
-fn refusals_of_proxies(rt: HostRuntime) -> Result<(), Fail> {
-    let (alloc, counts, mut present) = (rt.alloc(), Counts::new(), present());
-    present.has_proxy = true;
-    let text = status_text(alloc, &counts, &present)?;
-    assert!(rt; text.as_slice() == told_of_proxies(alloc, 0)?.as_bytes());
-    present.has_proxy = false;
-    counts.connections.reject(Rejection::NoKey);
-    let text = status_text(alloc, &counts, &present)?;
-    assert!(rt; text.as_slice() == told_of_proxies(alloc, 1)?.as_bytes());
+    let told = [
+        resident_bytes(status),
+        resident_bytes(b"VmSize:\t1 kB\nVmRSS: 1"),
+    ];
+    assert!(rt; told == [48_234_496, 0]);
     Ok(())
 }

@@ -25,9 +25,6 @@ pub(crate) const FIRST_QUESTION: &str =
     "c0020104000000010000003690a52092e073abe37a83a80fde418916a03e5b091cc67a80e7cf8d550a93\
      601dda211b3edffc95e3d00d25cbbfb9e0cab3540dca7538";
 
-/// What that is answered.
-pub(crate) const FIRST_PERMISSION: &str = "c00202040000000100000006562482bc289f";
-
 /// An update by bob, of task 7, as the second session of a single connection.
 pub(crate) const RECORD: &str =
     "c0030104000000020000001a2da425383e3167de12331209e8d43e730754ebc69648d141671c";
@@ -50,24 +47,3 @@ pub(crate) const WRONG_LOGIN: &str = "c1010104000000010000000c3dd7cba499eff4beee
 /// He fails.
 pub(crate) const FAILURE: &str =
     "c1010204000000010000001ba720d52e2e340e0563c168c99a2278016c23b88209c6733cbaccba";
-
-/// Bob asks in four sessions of a single connection for `junos-exec`, for `ppp` with the protocol
-/// `ip`, for a shell and for `junos`.
-pub(crate) const SERVICES: &str =
-    "c0020104000000010000002290a52092e073abe165e9c80fc5578452aa6b5a1a07d376dee88790521cd2\
-     6906d226\
-     c0020104000000020000002721a325383c3663dc18311209e8d43e730753efc78b7edb40675b21a3cdab\
-     47a7fc17923fe50978\
-     c00201040000000300000022ff0ce859ce39bf15f2ccbaf4abcbcd12a9be618b44acd605dca59fb6194a\
-     6bf2b327\
-     c0020104000000040000001d111b79ebed7f6e05b27147ba12d14ca03e1d21089d86e9112fb41a03fa";
-
-/// He is given two attributes; refused by himself; given his level and an attribute; and refused,
-/// as nobody has said anything of that.
-pub(crate) const GRANTS: &str =
-    "c00202040000000100000031562682bc289fd24d73518f833cf60fda9210950a26d313e07e4b039be5bd\
-     42c00defde678bcd9e7b74c9d155159ad09a0a\
-     c00202040000000200000019c28b43d50798f7dcf4c0669c454e44f2f17357816168b6e6a9\
-     c002020400000003000000241e3fbf56b8295709c004045d06f9067432badcf3b482f83ff6f5f8738dd0\
-     a083d5e31efd\
-     c0020204000000040000001977aa3fe6fbd41dec5bd0a8990823773de99c079b7df6de373f";

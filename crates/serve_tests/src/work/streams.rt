@@ -1,14 +1,16 @@
-//! Readers, writers and a gate that do what a test says.
+//! Readers, writers, a gate and a witness that do what a test says.
 
 ghost use Rattle.std.specs.Prelude.{◌≡◌, ◌≤◌, length};
 
 use std::alloc::Global;
 use std::io::{self, ErrorKind, Read, Write};
 use std::sync::atomic::{AtomicU64, Ordering};
+use tac_audit::{Notice, Refused, Witness};
+use tac_conn::Packet;
 use tac_worker::Gate;
 
 /// Gives the question for a `p`, the record for an `r`, twelve bytes that are no header for an `h`,
-/// is interrupted for an `i`, and fails for an `x`. After the last letter nothing is left.
+/// is interrupted for an `i`, and fails for an `x`. At a `-` and after the last letter nothing is left.
 #[derive(Drop)]
 pub(crate) struct Scripted<'a> {
     pub(crate) letters: &'a [u8],
@@ -36,6 +38,7 @@ impl Read for Scripted<'_> {
             b'i' => Err(io::Error::from(ErrorKind::Interrupted)),
             b'x' => Err(io::Error::from(ErrorKind::IsADirectory)),
             b'h' => Ok(hand(&[0; 12], buf)),
+            b'-' => Ok(0),
             b'r' => Ok(hand(self.record, buf)),
             _ => Ok(hand(self.question, buf)),
         }
@@ -151,5 +154,42 @@ impl Gate for Counting {
 
     fn replied(&self, _seat: u32) {
         self.replies.fetch_add(1, Ordering::SeqCst);
+    }
+}
+
+/// Takes so many notices, and refuses the next. What it is told is a letter each: `p` of a packet
+/// with a reply, `n` of one without, `c` of one whose body is cut, `h` of a header that is refused.
+#[derive(Drop)]
+pub(crate) struct Scribe {
+    pub(crate) told: String,
+    pub(crate) takes: usize,
+}
+
+// Whether the body of a packet is as long as its header says.
+fn is_whole(packet: &Packet) -> bool {
+    u32::try_from(packet.body.len()) == Ok(packet.header.length)
+}
+
+fn letter_of(notice: &Notice) -> &'static str {
+    match notice {
+        Notice::Packet(packet, _) if !is_whole(packet) => "c",
+        Notice::Packet(_, Some(_)) => "p",
+        Notice::Packet(_, None) => "n",
+        Notice::BadHeader(_) => "h",
+    }
+}
+
+impl Witness<Notice> for Scribe {
+    ghost takes = { λ _ _ _. Unit {0} };
+
+    ghost refuses = { λ _ _ _. Unit {0} };
+
+    fn tell(&mut self, notice: &Notice) -> Result<(), Refused> {
+        self.told.push_str(letter_of(notice))?;
+        if self.takes == 0 {
+            return Err(Refused);
+        }
+        self.takes -= 1;
+        Ok(())
     }
 }

@@ -1,4 +1,4 @@
-use Rattle.serve_tests.proofs.hall.shared.converses.Given as goal
+use Rattle.serve_tests.proofs.hall.shared.shares.Given as goal
 
 -- the run that begins here
 abbrev pub ghosts-holds : goal.ghosts-holds
