@@ -4,11 +4,10 @@
 
 mod expression;
 mod parts;
-mod signs;
+mod reading;
 mod text;
 mod unsaid;
 
 pub use expression::Search;
-pub use signs::spell_symbol;
-pub use text::joined;
-pub use unsaid::{ExpressionFault, Unsaid};
+pub use text::Text;
+pub use unsaid::Unsaid;

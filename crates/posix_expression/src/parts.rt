@@ -1,312 +1,166 @@
-//! Parts of a regular expression, as patterns spell them.
-//!
-//! An expression is searched for, and a pattern fits a whole text. So what may stand before and
-//! after is spelled too, as `.*`, and an anchor is what keeps it away. Where alternatives in
-//! parentheses at the edge of an expression have anchors, the `.*` goes into these parentheses.
-
-use crate::signs::Repeat;
-use crate::text::joined;
-use crate::unsaid::{ExpressionFault, Unsaid};
-use basics::Bytes;
-use std::alloc::{AllocError, Global};
-
-/// Whether a part stands at the edges of a text: anything may stand before it, and after it.
-#[derive(Clone, Copy)]
-pub(crate) struct Edges {
-    pub(crate) before: bool,
-    pub(crate) after: bool,
-}
-
-impl Edges {
-    pub(crate) const NEITHER: Edges = Edges {
-        before: false,
-        after: false,
-    };
-
-    pub(crate) const BOTH: Edges = Edges {
-        before: true,
-        after: true,
-    };
-
-    const BEFORE: Edges = Edges {
-        before: true,
-        after: false,
-    };
-
-    const AFTER: Edges = Edges {
-        before: false,
-        after: true,
-    };
-}
+//! Parts of a regular expression, and its alternatives.
 
 /// A symbol, a class or parentheses, with what it is repeated by.
+#[derive(Clone, Copy)]
 pub(crate) struct Part {
-    // how it is spelled where nothing else may stand at its edges
-    plain: Bytes,
-    // the same where anything may stand before it, after it, and both; empty if nothing in it is
-    // anchored there
-    after_any: Bytes,
-    before_any: Bytes,
-    between_any: Bytes,
-    has_begin: bool,
-    has_end: bool,
-    is_optional: bool,
-    is_dot: bool,
-    // it is `.*`, or `.+`
-    is_star: bool,
-    is_run: bool,
-}
-
-// By hand, so that a proof of an owner has one call at each exit, not a drop of each field.
-impl Drop for Part {
-    fn drop(self) {
-        let Part {
-            plain: _,
-            after_any: _,
-            before_any: _,
-            between_any: _,
-            has_begin: _,
-            has_end: _,
-            is_optional: _,
-            is_dot: _,
-            is_star: _,
-            is_run: _,
-        } = self;
-    }
+    /// Where its spelling begins.
+    pub(crate) at: usize,
+    pub(crate) is_dot: bool,
+    /// Whether it is `.*`, and whether it is that or `.+`.
+    pub(crate) is_star: bool,
+    pub(crate) is_run: bool,
+    /// Whether the empty text fits it.
+    pub(crate) is_optional: bool,
+    /// Whether something in its parentheses is anchored at their beginning, or at their end.
+    pub(crate) has_begin: bool,
+    pub(crate) has_end: bool,
 }
 
 impl Part {
-    /// A symbol, a class or a dot.
-    pub(crate) fn atom(alloc: Global, plain: Bytes, is_dot: bool) -> Part {
+    pub(crate) fn new(at: usize) -> Part {
         Part {
-            plain,
-            after_any: Bytes::new(alloc),
-            before_any: Bytes::new(alloc),
-            between_any: Bytes::new(alloc),
-            has_begin: false,
-            has_end: false,
-            is_optional: false,
-            is_dot,
+            at,
+            is_dot: false,
             is_star: false,
             is_run: false,
+            is_optional: false,
+            has_begin: false,
+            has_end: false,
         }
-    }
-
-    // How it is spelled at these edges of a text.
-    fn text(&self, edges: Edges) -> &[u8] {
-        let text = match (edges.before && self.has_begin, edges.after && self.has_end) {
-            (false, false) => &self.plain,
-            (true, false) => &self.after_any,
-            (false, true) => &self.before_any,
-            (true, true) => &self.between_any,
-        };
-        text.as_slice()
-    }
-
-    // The text with one more repeat.
-    fn repeated_text(&self, alloc: Global, repeat: Repeat) -> Result<Bytes, AllocError> {
-        let text = self.plain.as_slice();
-        let digits = match repeat {
-            Repeat::Star => return joined(alloc, &[text, b"*"]),
-            Repeat::Plus => return joined(alloc, &[text, b"+"]),
-            Repeat::Question => return joined(alloc, &[text, b"?"]),
-            Repeat::Between(low, high) if low == high => format!(in alloc; "{low}")?,
-            Repeat::Between(low, high) => format!(in alloc; "{low},{high}")?,
-            Repeat::AtLeast(low) => {
-                let low = format!(in alloc; "{low}")?;
-                let low = low.as_bytes();
-                return joined(alloc, &[b"(", text, b"{", low, b"}", text, b"*)"]);
-            }
-        };
-        joined(alloc, &[text, b"{", digits.as_bytes(), b"}"])
-    }
-
-    /// The part with one more repeat. What has anchors is repeated by none.
-    pub(crate) fn repeated(&self, alloc: Global, repeat: Repeat) -> Result<Part, ExpressionFault> {
-        if self.has_begin || self.has_end {
-            return Err(ExpressionFault::Unsaid(Unsaid::InnerAnchor));
-        }
-        let plain = self.repeated_text(alloc, repeat)?;
-        let mut part = Part::atom(alloc, plain, false);
-        part.is_optional = match repeat {
-            Repeat::Star | Repeat::Question => true,
-            Repeat::Plus => self.is_optional,
-            Repeat::Between(low, _) | Repeat::AtLeast(low) => self.is_optional || low == 0,
-        };
-        part.is_star = self.is_dot && matches!(repeat, Repeat::Star);
-        part.is_run = self.is_dot && matches!(repeat, Repeat::Star | Repeat::Plus);
-        Ok(part)
     }
 }
 
 /// One of several alternatives.
+#[derive(Clone, Copy)]
 pub(crate) struct Branch {
-    parts: Vec<Part>,
-    // it has a `^` before its parts, and a `$` after them
+    /// Where its spelling begins.
+    pub(crate) at: usize,
+    /// Whether it has a `^` before its parts, and a `$` after them.
     pub(crate) begins: bool,
     pub(crate) ends: bool,
-}
-
-// By hand, as above.
-impl Drop for Branch {
-    fn drop(self) {
-        let Branch {
-            parts: _,
-            begins: _,
-            ends: _,
-        } = self;
-    }
+    /// How many parts it has, and the last of them.
+    pub(crate) count: usize,
+    pub(crate) last: Part,
+    /// Whether its first part is `.*` or `.+`, and whether that has anchors at its beginning.
+    pub(crate) has_run: bool,
+    pub(crate) has_begin: bool,
+    // what is so of all parts before the last: the empty text fits them, they are `.*`
+    are_optional: bool,
+    are_stars: bool,
 }
 
 impl Branch {
-    pub(crate) fn new(alloc: Global) -> Branch {
+    pub(crate) fn new(at: usize) -> Branch {
         Branch {
-            parts: Vec::new(alloc),
+            at,
             begins: false,
             ends: false,
+            count: 0,
+            last: Part::new(at),
+            has_run: false,
+            has_begin: false,
+            are_optional: true,
+            are_stars: true,
         }
     }
 
-    // Whether its first part has anchors, and its last one.
-    fn first_has_begin(&self) -> bool {
-        match self.parts.first() {
-            Some(part) => part.has_begin,
-            None => false,
+    /// Adds a part, if it may stand there: what is anchored stands at an edge.
+    pub(crate) fn push(&mut self, part: Part) -> bool {
+        let is_first = self.count == 0;
+        if self.ends || self.last.has_end || (part.has_begin && !is_first) {
+            return false;
         }
-    }
-
-    fn last_has_end(&self) -> bool {
-        match self.parts.last() {
-            Some(part) => part.has_end,
-            None => false,
-        }
-    }
-
-    /// Whether anchors stand in no parentheses of it.
-    pub(crate) fn is_plain(&self) -> bool {
-        !self.first_has_begin() && !self.last_has_end()
-    }
-
-    /// Whether the empty text fits it.
-    pub(crate) fn is_optional(&self) -> bool {
-        self.parts.iter().all(|part| part.is_optional)
-    }
-
-    /// Whether any text is found by it.
-    pub(crate) fn is_everything(&self) -> bool {
-        let is_anchored = self.begins && self.ends;
-        let all_stars = self.parts.iter().all(|part| part.is_star);
-        all_stars && !(self.parts.is_empty() && is_anchored)
-    }
-
-    /// Has a `^` here.
-    pub(crate) fn begin(&mut self) -> Result<(), ExpressionFault> {
-        if !self.parts.is_empty() || self.ends {
-            return Err(ExpressionFault::Unsaid(Unsaid::InnerAnchor));
-        }
-        self.begins = true;
-        Ok(())
-    }
-
-    /// Has one more part.
-    pub(crate) fn push(&mut self, part: Part) -> Result<(), ExpressionFault> {
-        let is_after_end = self.ends || self.last_has_end();
-        if is_after_end || (part.has_begin && !self.parts.is_empty()) {
-            return Err(ExpressionFault::Unsaid(Unsaid::InnerAnchor));
-        }
-        self.parts.push(part)?;
-        Ok(())
-    }
-
-    /// Has its last part repeated.
-    pub(crate) fn repeat(&mut self, alloc: Global, repeat: Repeat) -> Result<(), ExpressionFault> {
-        if self.ends {
-            return Err(ExpressionFault::Unsaid(Unsaid::NothingToRepeat));
-        }
-        let Some(part) = self.parts.pop() else {
-            return Err(ExpressionFault::Unsaid(Unsaid::NothingToRepeat));
-        };
-        let part = part.repeated(alloc, repeat)?;
-        self.parts.push(part)?;
-        Ok(())
-    }
-
-    // What stands before its first part where anything may.
-    fn gap_before(&self) -> &'static [u8] {
-        match self.parts.first() {
-            Some(part) if part.has_begin || part.is_run => b"",
-            _ => b".*",
-        }
-    }
-
-    // The same after its last part; without parts, what stands before them is enough.
-    fn gap_after(&self, has_gap: bool) -> &'static [u8] {
-        match self.parts.last() {
-            Some(part) if part.has_end || part.is_run => b"",
-            None if has_gap => b"",
-            _ => b".*",
-        }
-    }
-
-    /// Adds how it is spelled at these edges of a text.
-    pub(crate) fn spell(&self, out: &mut Bytes, edges: Edges) -> Result<(), AllocError> {
-        let before = edges.before && !self.begins;
-        let after = edges.after && !self.ends;
-        if before {
-            out.extend_from_slice(self.gap_before())?;
-        }
-        let last = self.parts.len();
-        'parts: for (at, part) in self.parts.iter().enumerate() {
-            let edges = Edges {
-                before: before && at == 0,
-                after: after && at + 1 == last,
-            };
-            out.extend_from_slice(part.text(edges))?;
-        }
-        if after {
-            out.extend_from_slice(self.gap_after(before))?;
-        }
-        Ok(())
+        self.are_optional &= is_first | self.last.is_optional;
+        self.are_stars &= is_first | self.last.is_star;
+        self.has_begin |= part.has_begin;
+        self.count = self.count.saturating_add(1);
+        self.last = part;
+        true
     }
 }
 
-/// How alternatives are spelled at these edges, with a `|` between them.
-pub(crate) fn spelled(
-    alloc: Global,
-    branches: &[Branch],
-    edges: Edges,
-) -> Result<Bytes, AllocError> {
-    let mut text = Bytes::new(alloc);
-    'branches: for (at, branch) in branches.iter().enumerate() {
-        if at > 0 {
-            text.push(b'|')?;
+/// Alternatives, of which the last is read.
+#[derive(Clone, Copy)]
+pub(crate) struct Level {
+    // where their parentheses begin
+    at: usize,
+    pub(crate) branch: Branch,
+    /// How many were read before it.
+    pub(crate) count: usize,
+    /// How the first of them is anchored, and whether all are anchored like it, and at their edges
+    /// alone.
+    pub(crate) begins: bool,
+    pub(crate) ends: bool,
+    pub(crate) are_alike: bool,
+    // what is so of one of them
+    has_begin: bool,
+    has_end: bool,
+    pub(crate) is_optional: bool,
+    pub(crate) is_everything: bool,
+}
+
+impl Level {
+    pub(crate) fn new(at: usize) -> Level {
+        Level {
+            at,
+            branch: Branch::new(at),
+            count: 0,
+            begins: false,
+            ends: false,
+            are_alike: true,
+            has_begin: false,
+            has_end: false,
+            is_optional: false,
+            is_everything: false,
         }
-        branch.spell(&mut text, edges)?;
     }
-    Ok(text)
-}
 
-// The same in parentheses.
-fn grouped(alloc: Global, branches: &[Branch], edges: Edges) -> Result<Bytes, AllocError> {
-    let text = spelled(alloc, branches, edges)?;
-    joined(alloc, &[b"(", text.as_slice(), b")"])
-}
-
-/// Alternatives in parentheses, as a part.
-pub(crate) fn group_of(alloc: Global, branches: &[Branch]) -> Result<Part, AllocError> {
-    let plain = grouped(alloc, branches, Edges::NEITHER)?;
-    let mut part = Part::atom(alloc, plain, false);
-    part.has_begin = branches
-        .iter()
-        .any(|branch| branch.begins || branch.first_has_begin());
-    part.has_end = branches
-        .iter()
-        .any(|branch| branch.ends || branch.last_has_end());
-    part.is_optional = branches.iter().any(|branch| branch.is_optional());
-    if part.has_begin || part.has_end {
-        part.after_any = grouped(alloc, branches, Edges::BEFORE)?;
-        part.before_any = grouped(alloc, branches, Edges::AFTER)?;
-        part.between_any = grouped(alloc, branches, Edges::BOTH)?;
+    /// What any text fits.
+    pub(crate) fn everything() -> Level {
+        let mut level = Level::new(0);
+        level.is_optional = true;
+        level.is_everything = true;
+        level
     }
-    Ok(part)
+
+    /// Counts the last of them, which has been read.
+    pub(crate) fn end_branch(&mut self) {
+        let branch = self.branch;
+        let is_empty = branch.count == 0;
+        if self.count == 0 {
+            self.begins = branch.begins;
+            self.ends = branch.ends;
+        }
+        self.count = self.count.saturating_add(1);
+        self.are_alike &= !branch.has_begin & !branch.last.has_end;
+        self.are_alike &= (branch.begins == self.begins) & (branch.ends == self.ends);
+        self.has_begin |= branch.begins | branch.has_begin;
+        self.has_end |= branch.ends | branch.last.has_end;
+        self.is_optional |= is_empty | (branch.are_optional & branch.last.is_optional);
+        let are_stars = is_empty | (branch.are_stars & branch.last.is_star);
+        self.is_everything |= are_stars & !(is_empty & branch.begins & branch.ends);
+    }
+
+    /// All of them in their parentheses.
+    pub(crate) fn group(&self) -> Part {
+        let mut group = Part::new(self.at);
+        group.is_optional = self.is_optional;
+        group.has_begin = self.has_begin;
+        group.has_end = self.has_end;
+        group
+    }
+
+    /// These and other ones, if all are anchored alike.
+    pub(crate) fn or(&self, other: &Level) -> Option<Level> {
+        let are_open = !self.is_everything & !other.is_everything;
+        let are_alike = self.are_alike & other.are_alike;
+        let same_edges = (self.begins == other.begins) & (self.ends == other.ends);
+        if !(are_open & are_alike & same_edges) {
+            return None;
+        }
+        let mut both = *self;
+        both.count = self.count.saturating_add(other.count);
+        both.is_optional |= other.is_optional;
+        Some(both)
+    }
 }

@@ -1,10 +1,7 @@
 //! Why an expression isn't said.
 
-use std::alloc::{AllocError, AllocFailed};
-use std::fmt;
-
 /// Why no pattern says what a regular expression does.
-#[derive(Clone, Copy, Debug, PartialEq, Eq)]
+#[derive(Clone, Copy)]
 pub enum Unsaid {
     TooLong,
     NotSymbol,
@@ -22,9 +19,10 @@ pub enum Unsaid {
     TooLarge,
 }
 
-impl fmt::Display for Unsaid {
-    fn fmt<W: fmt::Write>(&self, f: &mut fmt::Formatter<W>) -> fmt::Result {
-        f.write_str(match self {
+impl Unsaid {
+    /// What is told of it.
+    pub fn text(self) -> &'static str {
+        match self {
             Unsaid::TooLong => "it is over 400 bytes long",
             Unsaid::NotSymbol => "it has a byte that isn't printable ASCII",
             Unsaid::Reference => "no pattern refers back to a group",
@@ -39,25 +37,6 @@ impl fmt::Display for Unsaid {
             Unsaid::Unopened => "it has a ')' that closes nothing",
             Unsaid::TooDeep => "its parentheses are over 30 deep",
             Unsaid::TooLarge => "it is too large for a pattern",
-        })
-    }
-}
-
-/// Why an expression isn't said.
-#[derive(Clone, Copy)]
-pub enum ExpressionFault {
-    Unsaid(Unsaid),
-    Memory,
-}
-
-impl From<AllocError> for ExpressionFault {
-    fn from(_error: AllocError) -> ExpressionFault {
-        ExpressionFault::Memory
-    }
-}
-
-impl<T: Drop> From<AllocFailed<T>> for ExpressionFault {
-    fn from(_error: AllocFailed<T>) -> ExpressionFault {
-        ExpressionFault::Memory
+        }
     }
 }

@@ -4,16 +4,25 @@ use crate::configuration::{
     Attribute, Command, Extra, Host, Method, Password, Purpose, Rule, Service, Setting,
 };
 use crate::fault::{FileFault, Mistake};
-use crate::reader::{Reader, Token, verdict_of};
+use crate::keyword::Keyword;
+use crate::reader::{Reader, Token};
 use basics::Bytes;
+use pol_names::Verdict;
 
-// One more attribute of a service, whose name has been taken.
-fn read_attribute(
-    reader: &mut Reader<'_>,
-    is_optional: bool,
-    name: Bytes,
-) -> Result<Attribute, FileFault> {
+// Whether it is this word without quotes.
+fn is_word(token: Token<'_>, wanted: &[u8]) -> bool {
+    match token {
+        Token::Word(word) => word == wanted,
+        _ => false,
+    }
+}
+
+// An attribute of a service, which begins by this token.
+fn read_attribute(reader: &mut Reader<'_>, first: Token<'_>) -> Result<Attribute, FileFault> {
+    let is_optional = is_word(first, b"optional");
+    let token = if is_optional { reader.take()? } else { first };
     let line = reader.line();
+    let name = reader.text_of(token)?;
     let value = reader.take_value()?;
     Ok(Attribute {
         line,
@@ -23,41 +32,28 @@ fn read_attribute(
     })
 }
 
-// What a word of a service begins: an attribute, or `default attribute`, which gives none.
-fn read_given(reader: &mut Reader<'_>, word: Bytes) -> Result<Option<Attribute>, FileFault> {
-    match word.as_slice() {
-        b"default" => {
-            reader.take_keyword(b"attribute")?;
-            reader.take_equals()?;
-            reader.take_verdict()?;
-            Ok(None)
-        }
-        b"optional" => {
-            let name = reader.take_text()?;
-            let attribute = read_attribute(reader, true, name)?;
-            Ok(Some(attribute))
-        }
-        _ => {
-            let attribute = read_attribute(reader, false, word)?;
-            Ok(Some(attribute))
-        }
-    }
+// Passes over `default attribute = permit`, whose first word has been taken.
+fn pass_default(reader: &mut Reader<'_>) -> Result<(), FileFault> {
+    reader.take_this(b"attribute")?;
+    reader.take_equals()?;
+    reader.take_verdict()?;
+    Ok(())
 }
 
 // The attributes of a service, up to its end.
-fn read_attributes(reader: &mut Reader<'_>) -> Result<Vec<Attribute>, FileFault> {
-    let mut attributes = Vec::new(reader.alloc());
+fn read_attributes(
+    reader: &mut Reader<'_>,
+    attributes: &mut Vec<Attribute>,
+) -> Result<(), FileFault> {
     'attributes: for _ in 0..reader.left() {
         match reader.take()? {
-            Token::Close => return Ok(attributes),
-            Token::Word(word) => {
-                if let Some(attribute) = read_given(reader, word)? {
-                    attributes.push(attribute)?;
-                }
-            }
-            Token::Quoted(name) => attributes.push(read_attribute(reader, false, name)?)?,
+            Token::Close => return Ok(()),
             Token::End => break,
-            Token::Equals | Token::Open => return Err(reader.wrong(Mistake::NoWord)),
+            token if is_word(token, b"default") => pass_default(reader)?,
+            token => {
+                let attribute = read_attribute(reader, token)?;
+                attributes.push(attribute)?;
+            }
         }
     }
     Err(reader.wrong(Mistake::OpenBrace))
@@ -65,16 +61,14 @@ fn read_attributes(reader: &mut Reader<'_>) -> Result<Vec<Attribute>, FileFault>
 
 // The protocol of a service, if it has one, and its `{`.
 fn read_protocol(reader: &mut Reader<'_>) -> Result<Option<Bytes>, FileFault> {
-    match reader.take()? {
+    let token = reader.take()?;
+    if is_word(token, b"protocol") {
+        let protocol = reader.take_value()?;
+        reader.take_open()?;
+        return Ok(Some(protocol));
+    }
+    match token {
         Token::Open => Ok(None),
-        Token::Word(word) => {
-            if word.as_slice() != b"protocol".as_slice() {
-                return Err(reader.wrong(Mistake::NoOpen));
-            }
-            let protocol = reader.take_value()?;
-            reader.take_open()?;
-            Ok(Some(protocol))
-        }
         _ => Err(reader.wrong(Mistake::NoOpen)),
     }
 }
@@ -84,21 +78,19 @@ pub(crate) fn read_service(reader: &mut Reader<'_>) -> Result<Service, FileFault
     let line = reader.line();
     let name = reader.take_value()?;
     let protocol = read_protocol(reader)?;
-    let attributes = read_attributes(reader)?;
-    Ok(Service {
+    let mut service = Service {
         line,
         name,
         protocol,
-        attributes,
-    })
+        attributes: Vec::new(reader.alloc()),
+    };
+    read_attributes(reader, &mut service.attributes)?;
+    Ok(service)
 }
 
-// A rule, whose verdict stands here.
-fn read_rule(reader: &mut Reader<'_>, word: &[u8]) -> Result<Rule, FileFault> {
+// A rule, whose verdict has been taken.
+fn read_rule(reader: &mut Reader<'_>, verdict: Verdict) -> Result<Rule, FileFault> {
     let line = reader.line();
-    let Some(verdict) = verdict_of(word) else {
-        return Err(reader.wrong(Mistake::NoVerdict));
-    };
     let expression = reader.take_text()?;
     Ok(Rule {
         line,
@@ -108,15 +100,13 @@ fn read_rule(reader: &mut Reader<'_>, word: &[u8]) -> Result<Rule, FileFault> {
 }
 
 // The rules of a command, up to its end.
-fn read_rules(reader: &mut Reader<'_>) -> Result<Vec<Rule>, FileFault> {
-    let mut rules = Vec::new(reader.alloc());
+fn read_rules(reader: &mut Reader<'_>, rules: &mut Vec<Rule>) -> Result<(), FileFault> {
     'rules: for _ in 0..reader.left() {
-        match reader.take()? {
-            Token::Close => return Ok(rules),
-            Token::Word(word) => rules.push(read_rule(reader, word.as_slice())?)?,
-            Token::End => break,
-            _ => return Err(reader.wrong(Mistake::NoVerdict)),
-        }
+        let Some(verdict) = reader.take_inner_verdict()? else {
+            return Ok(());
+        };
+        let rule = read_rule(reader, verdict)?;
+        rules.push(rule)?;
     }
     Err(reader.wrong(Mistake::OpenBrace))
 }
@@ -126,19 +116,21 @@ pub(crate) fn read_command(reader: &mut Reader<'_>) -> Result<Command, FileFault
     let line = reader.line();
     let name = reader.take_value()?;
     reader.take_open()?;
-    let rules = read_rules(reader)?;
-    Ok(Command { line, name, rules })
+    let mut command = Command {
+        line,
+        name,
+        rules: Vec::new(reader.alloc()),
+    };
+    read_rules(reader, &mut command.rules)?;
+    Ok(command)
 }
 
-fn method_of(word: &[u8]) -> Option<Method> {
-    match word {
-        b"cleartext" => Some(Method::Cleartext),
-        b"des" => Some(Method::Des),
-        b"file" => Some(Method::File),
-        b"skey" => Some(Method::Skey),
-        b"nopassword" => Some(Method::NoPassword),
-        b"PAM" | b"pam" => Some(Method::Pam),
-        _ => None,
+// How a password is kept.
+fn take_method(reader: &mut Reader<'_>) -> Result<Method, FileFault> {
+    let word = reader.take_value()?;
+    match Keyword::read(word.as_slice()) {
+        Some(Keyword::Method(method)) => Ok(method),
+        _ => Err(reader.wrong(Mistake::NoMethod)),
     }
 }
 
@@ -148,10 +140,7 @@ pub(crate) fn read_password(
     purpose: Purpose,
 ) -> Result<Password, FileFault> {
     let line = reader.line();
-    let word = reader.take_value()?;
-    let Some(method) = method_of(word.as_slice()) else {
-        return Err(reader.wrong(Mistake::NoMethod));
-    };
+    let method = take_method(reader)?;
     let text = match method {
         Method::Cleartext | Method::Des | Method::File => reader.take_text()?,
         Method::Skey | Method::NoPassword | Method::Pam => Bytes::new(reader.alloc()),
@@ -164,54 +153,49 @@ pub(crate) fn read_password(
     })
 }
 
-// What a word of a device's settings begins.
+// Passes over what has no equal of a device's settings.
+fn pass_host_setting(reader: &mut Reader<'_>, keyword: Keyword) -> Result<Setting, FileFault> {
+    match keyword {
+        Keyword::Setting(setting @ (Setting::HostPrompt | Setting::HostType)) => {
+            reader.take_value()?;
+            Ok(setting)
+        }
+        Keyword::Purpose(Purpose::Enable) => {
+            read_password(reader, Purpose::Enable)?;
+            Ok(Setting::HostEnable)
+        }
+        _ => Err(reader.wrong(Mistake::NoSetting)),
+    }
+}
+
+// What a keyword of a device's settings begins.
 fn read_host_setting(
     reader: &mut Reader<'_>,
     host: &mut Host,
     extras: &mut Vec<Extra>,
-    word: &[u8],
+    keyword: Keyword,
 ) -> Result<(), FileFault> {
+    if let Keyword::Key = keyword {
+        return reader.take_once(&mut host.key);
+    }
     let line = reader.line();
-    let setting = match word {
-        b"key" => return reader.take_once(&mut host.key),
-        b"prompt" => {
-            reader.take_value()?;
-            Setting::HostPrompt
-        }
-        b"type" => {
-            reader.take_value()?;
-            Setting::HostType
-        }
-        b"enable" => {
-            read_password(reader, Purpose::Enable)?;
-            Setting::HostEnable
-        }
-        _ => return Err(reader.wrong(Mistake::NoSetting)),
-    };
+    let setting = pass_host_setting(reader, keyword)?;
     extras.push(Extra { line, setting })?;
     Ok(())
 }
 
-/// A device of this name, which has been taken.
+/// The settings of a device, up to its end.
 pub(crate) fn read_host(
     reader: &mut Reader<'_>,
-    line: usize,
-    name: Bytes,
+    host: &mut Host,
     extras: &mut Vec<Extra>,
-) -> Result<Host, FileFault> {
+) -> Result<(), FileFault> {
     reader.take_open()?;
-    let mut host = Host {
-        line,
-        name,
-        key: None,
-    };
     'settings: for _ in 0..reader.left() {
-        match reader.take()? {
-            Token::Close => return Ok(host),
-            Token::Word(word) => read_host_setting(reader, &mut host, extras, word.as_slice())?,
-            Token::End => break,
-            _ => return Err(reader.wrong(Mistake::NoSetting)),
-        }
+        let Some(keyword) = reader.take_inner(Mistake::NoSetting)? else {
+            return Ok(());
+        };
+        read_host_setting(reader, host, extras, keyword)?;
     }
     Err(reader.wrong(Mistake::OpenBrace))
 }
@@ -221,17 +205,10 @@ pub(crate) fn read_access_list(reader: &mut Reader<'_>) -> Result<(), FileFault>
     reader.take_value()?;
     reader.take_open()?;
     'entries: for _ in 0..reader.left() {
-        match reader.take()? {
-            Token::Close => return Ok(()),
-            Token::Word(word) => {
-                if verdict_of(word.as_slice()).is_none() {
-                    return Err(reader.wrong(Mistake::NoVerdict));
-                }
-                reader.take_value()?;
-            }
-            Token::End => break,
-            _ => return Err(reader.wrong(Mistake::NoVerdict)),
+        if reader.take_inner_verdict()?.is_none() {
+            return Ok(());
         }
+        reader.take_value()?;
     }
     Err(reader.wrong(Mistake::OpenBrace))
 }

@@ -2,6 +2,7 @@
 
 use basics::Bytes;
 use pol_names::{Kind, Verdict};
+use std::collections::BTreeMap;
 
 /// A word and its line.
 #[derive(Drop)]
@@ -114,6 +115,8 @@ pub struct Subject {
     pub line: usize,
     pub kind: Kind,
     pub name: Bytes,
+    /// How many of its kind stand before it.
+    pub number: usize,
     /// The group that it is a member of.
     pub parent: Option<Word>,
     /// The `default service`, and its line.
@@ -130,6 +133,7 @@ impl Drop for Subject {
             line: _,
             kind: _,
             name: _,
+            number: _,
             parent: _,
             default: _,
             passwords: _,
@@ -147,11 +151,23 @@ pub struct Host {
     pub key: Option<Word>,
 }
 
+/// Where a subject or a device begins: at which line, and how many subjects or devices stand before it.
+#[derive(Clone, Copy)]
+pub struct Place {
+    pub line: usize,
+    pub at: usize,
+}
+
+/// Names, and where what they name begins.
+pub type Names = BTreeMap<Vec<u8>, Place>;
+
 /// All that a file says.
 pub struct Configuration {
     pub key: Option<Word>,
     pub hosts: Vec<Host>,
     pub subjects: Vec<Subject>,
+    /// Where each group stands among the subjects.
+    pub groups: Names,
     /// What has no equal in a policy, wherever it stands.
     pub extras: Vec<Extra>,
 }
@@ -163,6 +179,7 @@ impl Drop for Configuration {
             key: _,
             hosts: _,
             subjects: _,
+            groups: _,
             extras: _,
         } = self;
     }

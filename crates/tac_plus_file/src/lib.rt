@@ -4,13 +4,14 @@
 mod blocks;
 mod configuration;
 mod fault;
+mod keyword;
 mod reader;
 mod reading;
 mod subject;
 
 pub use configuration::{
-    Attribute, Command, Configuration, Extra, Host, Method, Password, Purpose, Rule, Service,
-    Setting, Subject, Word,
+    Attribute, Command, Configuration, Extra, Host, Method, Names, Password, Place, Purpose, Rule,
+    Service, Setting, Subject, Word,
 };
 pub use fault::{FileFault, Mistake};
 pub use reading::read_configuration;

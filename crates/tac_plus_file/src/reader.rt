@@ -2,18 +2,19 @@
 
 use crate::configuration::Word;
 use crate::fault::{FileFault, Mistake};
+use crate::keyword::Keyword;
 use basics::Bytes;
 use memchr::memchr;
 use pol_names::Verdict;
 use std::alloc::{AllocError, Global};
 
 /// What stands next in a file.
-#[derive(Drop)]
-pub(crate) enum Token {
+#[derive(Clone, Copy)]
+pub(crate) enum Token<'a> {
     /// A word without quotes, which may be a keyword.
-    Word(Bytes),
-    /// What stands between quotes, which is no keyword.
-    Quoted(Bytes),
+    Word(&'a [u8]),
+    /// What stands between quotes, as it is written there. It is no keyword.
+    Quoted(&'a [u8]),
     Equals,
     Open,
     Close,
@@ -52,6 +53,43 @@ fn split_word(text: &[u8]) -> (&[u8], &[u8]) {
         Some(at) => (&text[..at], &text[at..]),
         None => (text, &[]),
     }
+}
+
+// The next part of what stands between quotes, and what comes after it; none where it ends. A `\`
+// takes a quotation mark as it is; elsewhere it stays, and what follows it is no sign.
+fn split_quoted(text: &[u8]) -> Option<(&[u8], &[u8])> {
+    match text {
+        [] | [b'"', ..] => None,
+        [b'\\', b'"', later @ ..] => Some((b"\"", later)),
+        [b'\\', _, later @ ..] => Some((&text[..2], later)),
+        [_, later @ ..] => Some((&text[..1], later)),
+    }
+}
+
+// A text from its next quotation mark on.
+fn from_quote(text: &[u8]) -> &[u8] {
+    let mut rest = text;
+    'parts: for _ in 0..text.len() {
+        match split_quoted(rest) {
+            Some((_, later)) => rest = later,
+            None => break,
+        }
+    }
+    rest
+}
+
+// The text that stands between quotes.
+fn unquoted(alloc: Global, quoted: &[u8]) -> Result<Bytes, AllocError> {
+    let mut text = Bytes::new(alloc);
+    let mut rest = quoted;
+    'parts: for _ in 0..quoted.len() {
+        let Some((part, later)) = split_quoted(rest) else {
+            break;
+        };
+        text.extend_from_slice(part)?;
+        rest = later;
+    }
+    Ok(text)
 }
 
 impl<'a> Reader<'a> {
@@ -106,58 +144,31 @@ impl<'a> Reader<'a> {
         }
     }
 
-    // What stands before the next quotation mark, and passes over both. A `\` takes a quotation
-    // mark as it is; elsewhere it stays.
-    fn quoted(&mut self) -> Result<Option<Bytes>, AllocError> {
-        let mut text = Bytes::new(self.alloc);
-        'bytes: for _ in 0..self.rest.len() {
-            match self.rest {
-                [b'"', later @ ..] => {
-                    self.rest = later;
-                    return Ok(Some(text));
-                }
-                [b'\\', b'"', later @ ..] => {
-                    self.rest = later;
-                    text.push(b'"')?;
-                }
-                [b'\\', byte, later @ ..] => {
-                    self.rest = later;
-                    text.push(b'\\')?;
-                    text.push(*byte)?;
-                }
-                [byte, later @ ..] => {
-                    self.rest = later;
-                    if *byte == b'\n' {
-                        self.end_line();
-                    }
-                    text.push(*byte)?;
-                }
-                [] => break,
-            }
-        }
-        Ok(None)
-    }
-
     // The word that stands here.
-    fn word_here(&mut self) -> Result<Token, FileFault> {
+    fn word_here(&mut self) -> Result<Token<'a>, FileFault> {
         let (word, rest) = split_word(self.rest);
         self.rest = rest;
         if word.contains(&b'\r') {
             return Err(self.wrong(Mistake::CarriageReturn));
         }
-        let text = Bytes::from_slice(self.alloc, word)?;
-        Ok(Token::Word(text))
+        Ok(Token::Word(word))
     }
 
-    fn quoted_here(&mut self) -> Result<Token, FileFault> {
-        match self.quoted()? {
-            Some(text) => Ok(Token::Quoted(text)),
-            None => Err(self.wrong(Mistake::OpenQuote)),
-        }
+    // What stands between quotes here, after the first of them.
+    fn quoted_here(&mut self) -> Result<Token<'a>, FileFault> {
+        let [b'"', later @ ..] = from_quote(self.rest) else {
+            return Err(self.wrong(Mistake::OpenQuote));
+        };
+        let length = self.rest.len().saturating_sub(later.len() + 1);
+        let quoted = self.rest.get(..length).unwrap_or(&[]);
+        let lines = quoted.iter().filter(|byte| **byte == b'\n').count();
+        self.line = self.line.saturating_add(lines);
+        self.rest = later;
+        Ok(Token::Quoted(quoted))
     }
 
     /// Takes what comes next. At the end of the file the last token's line stays.
-    pub(crate) fn take(&mut self) -> Result<Token, FileFault> {
+    pub(crate) fn take(&mut self) -> Result<Token<'a>, FileFault> {
         self.skip();
         if !self.rest.is_empty() {
             self.at = self.line;
@@ -200,12 +211,23 @@ impl<'a> Reader<'a> {
         }
     }
 
+    /// The text of any word, which was the last token.
+    pub(crate) fn text_of(&self, token: Token<'_>) -> Result<Bytes, FileFault> {
+        let text = match token {
+            Token::Word(word) => Bytes::from_slice(self.alloc, word),
+            Token::Quoted(quoted) => unquoted(self.alloc, quoted),
+            _ => return Err(self.wrong(Mistake::NoWord)),
+        };
+        match text {
+            Ok(text) => Ok(text),
+            Err(_) => Err(FileFault::Memory),
+        }
+    }
+
     /// Takes any word.
     pub(crate) fn take_text(&mut self) -> Result<Bytes, FileFault> {
-        match self.take()? {
-            Token::Word(text) | Token::Quoted(text) => Ok(text),
-            _ => Err(self.wrong(Mistake::NoWord)),
-        }
+        let token = self.take()?;
+        self.text_of(token)
     }
 
     /// Takes `= WORD`.
@@ -234,38 +256,52 @@ impl<'a> Reader<'a> {
     }
 
     /// Takes a word without quotes.
-    pub(crate) fn take_plain(&mut self, mistake: Mistake) -> Result<Bytes, FileFault> {
+    pub(crate) fn take_plain(&mut self, mistake: Mistake) -> Result<&'a [u8], FileFault> {
         match self.take()? {
-            Token::Word(text) => Ok(text),
+            Token::Word(word) => Ok(word),
             _ => Err(self.wrong(mistake)),
         }
     }
 
-    /// Takes this keyword.
-    pub(crate) fn take_keyword(&mut self, keyword: &[u8]) -> Result<(), FileFault> {
+    /// Takes this word without quotes.
+    pub(crate) fn take_this(&mut self, wanted: &[u8]) -> Result<(), FileFault> {
         let word = self.take_plain(Mistake::NoSetting)?;
-        if word.as_slice() == keyword {
+        if word == wanted {
             Ok(())
         } else {
             Err(self.wrong(Mistake::NoSetting))
         }
     }
 
+    /// Takes the next keyword between braces, or the `}` that ends them, which gives none.
+    pub(crate) fn take_inner(&mut self, mistake: Mistake) -> Result<Option<Keyword>, FileFault> {
+        let word = match self.take()? {
+            Token::Word(word) => word,
+            Token::Close => return Ok(None),
+            Token::End => return Err(self.wrong(Mistake::OpenBrace)),
+            _ => return Err(self.wrong(mistake)),
+        };
+        match Keyword::read(word) {
+            Some(keyword) => Ok(Some(keyword)),
+            None => Err(self.wrong(mistake)),
+        }
+    }
+
     /// Takes `permit` or `deny`.
     pub(crate) fn take_verdict(&mut self) -> Result<Verdict, FileFault> {
         let word = self.take_plain(Mistake::NoVerdict)?;
-        match verdict_of(word.as_slice()) {
-            Some(verdict) => Ok(verdict),
-            None => Err(self.wrong(Mistake::NoVerdict)),
+        match Keyword::read(word) {
+            Some(Keyword::Verdict(verdict)) => Ok(verdict),
+            _ => Err(self.wrong(Mistake::NoVerdict)),
         }
     }
-}
 
-/// The verdict that a keyword is.
-pub(crate) fn verdict_of(word: &[u8]) -> Option<Verdict> {
-    match word {
-        b"permit" => Some(Verdict::Permit),
-        b"deny" => Some(Verdict::Deny),
-        _ => None,
+    /// Takes the next verdict between braces, or the `}` that ends them, which gives none.
+    pub(crate) fn take_inner_verdict(&mut self) -> Result<Option<Verdict>, FileFault> {
+        match self.take_inner(Mistake::NoVerdict)? {
+            Some(Keyword::Verdict(verdict)) => Ok(Some(verdict)),
+            Some(_) => Err(self.wrong(Mistake::NoVerdict)),
+            None => Ok(None),
+        }
     }
 }

@@ -1,47 +1,37 @@
 //! What stands under a user or a group.
 
 use crate::blocks::{read_command, read_password, read_service};
-use crate::configuration::{Extra, Purpose, Setting, Subject};
+use crate::configuration::{Extra, Setting, Subject};
 use crate::fault::{FileFault, Mistake};
-use crate::reader::{Reader, Token};
+use crate::keyword::Keyword;
+use crate::reader::Reader;
 use basics::Bytes;
 use pol_names::Kind;
-
-fn purpose_of(word: &[u8]) -> Option<Purpose> {
-    match word {
-        b"login" => Some(Purpose::Login),
-        b"enable" => Some(Purpose::Enable),
-        b"pap" => Some(Purpose::Pap),
-        b"chap" => Some(Purpose::Chap),
-        b"ms-chap" | b"mschap" => Some(Purpose::MsChap),
-        b"arap" => Some(Purpose::Arap),
-        b"opap" => Some(Purpose::OutboundPap),
-        b"global" => Some(Purpose::Global),
-        _ => None,
-    }
-}
+use std::alloc::Global;
 
 // Passes over a setting that has no equal.
-fn read_extra(reader: &mut Reader<'_>, word: &[u8]) -> Result<Setting, FileFault> {
-    let setting = match word {
-        b"before" | b"after" => {
-            reader.take_keyword(b"authorization")?;
+fn read_extra(reader: &mut Reader<'_>, keyword: Keyword) -> Result<Setting, FileFault> {
+    match keyword {
+        Keyword::Before | Keyword::After => {
+            reader.take_this(b"authorization")?;
             reader.take_text()?;
-            return Ok(if word == b"before".as_slice() {
-                Setting::BeforeAuthorization
-            } else {
-                Setting::AfterAuthorization
-            });
+            Ok(match keyword {
+                Keyword::Before => Setting::BeforeAuthorization,
+                _ => Setting::AfterAuthorization,
+            })
         }
-        b"expires" => Setting::Expires,
-        b"message" => Setting::Message,
-        b"acl" => Setting::AccessList,
-        b"enableacl" => Setting::EnableAccessList,
-        b"maxsess" => Setting::MaxSessions,
-        _ => return Err(reader.wrong(Mistake::NoSetting)),
-    };
-    reader.take_value()?;
-    Ok(setting)
+        Keyword::Setting(
+            setting @ (Setting::Expires
+            | Setting::Message
+            | Setting::AccessList
+            | Setting::EnableAccessList
+            | Setting::MaxSessions),
+        ) => {
+            reader.take_value()?;
+            Ok(setting)
+        }
+        _ => Err(reader.wrong(Mistake::NoSetting)),
+    }
 }
 
 fn read_default(reader: &mut Reader<'_>, subject: &mut Subject) -> Result<(), FileFault> {
@@ -49,58 +39,65 @@ fn read_default(reader: &mut Reader<'_>, subject: &mut Subject) -> Result<(), Fi
     if let Some((first, _)) = subject.default {
         return Err(reader.wrong(Mistake::Repeated(first)));
     }
-    reader.take_keyword(b"service")?;
+    reader.take_this(b"service")?;
     reader.take_equals()?;
     let verdict = reader.take_verdict()?;
     subject.default = Some((line, verdict));
     Ok(())
 }
 
-// What a word begins.
+// What a keyword begins.
 fn read_setting(
     reader: &mut Reader<'_>,
     subject: &mut Subject,
     extras: &mut Vec<Extra>,
-    word: &[u8],
+    keyword: Keyword,
 ) -> Result<(), FileFault> {
-    if let Some(purpose) = purpose_of(word) {
-        let password = read_password(reader, purpose)?;
-        subject.passwords.push(password)?;
-        return Ok(());
-    }
-    match word {
-        b"default" => read_default(reader, subject),
-        b"member" => reader.take_once(&mut subject.parent),
-        b"service" => {
+    match keyword {
+        Keyword::Purpose(purpose) => {
+            let password = read_password(reader, purpose)?;
+            subject.passwords.push(password)?;
+            Ok(())
+        }
+        Keyword::Default => read_default(reader, subject),
+        Keyword::Member => reader.take_once(&mut subject.parent),
+        Keyword::Service => {
             let service = read_service(reader)?;
             subject.services.push(service)?;
             Ok(())
         }
-        b"cmd" => {
+        Keyword::Command => {
             let command = read_command(reader)?;
             subject.commands.push(command)?;
             Ok(())
         }
         // a name in full changes nothing
-        b"name" => {
+        Keyword::Name => {
             reader.take_value()?;
             Ok(())
         }
         _ => {
             let line = reader.line();
-            let setting = read_extra(reader, word)?;
+            let setting = read_extra(reader, keyword)?;
             extras.push(Extra { line, setting })?;
             Ok(())
         }
     }
 }
 
-fn new_subject(reader: &Reader<'_>, line: usize, kind: Kind, name: Bytes) -> Subject {
-    let alloc = reader.alloc();
+/// A subject of which nothing but its name is read.
+pub(crate) fn new_subject(
+    alloc: Global,
+    line: usize,
+    kind: Kind,
+    name: Bytes,
+    number: usize,
+) -> Subject {
     Subject {
         line,
         kind,
         name,
+        number,
         parent: None,
         default: None,
         passwords: Vec::new(alloc),
@@ -116,26 +113,20 @@ fn read_settings(
     extras: &mut Vec<Extra>,
 ) -> Result<(), FileFault> {
     'settings: for _ in 0..reader.left() {
-        match reader.take()? {
-            Token::Close => return Ok(()),
-            Token::Word(word) => read_setting(reader, subject, extras, word.as_slice())?,
-            Token::End => break,
-            _ => return Err(reader.wrong(Mistake::NoSetting)),
-        }
+        let Some(keyword) = reader.take_inner(Mistake::NoSetting)? else {
+            return Ok(());
+        };
+        read_setting(reader, subject, extras, keyword)?;
     }
     Err(reader.wrong(Mistake::OpenBrace))
 }
 
-/// A user or a group, of this name, which has been taken.
+/// A user or a group, whose name has been taken.
 pub(crate) fn read_subject(
     reader: &mut Reader<'_>,
-    line: usize,
-    kind: Kind,
-    name: Bytes,
+    subject: &mut Subject,
     extras: &mut Vec<Extra>,
-) -> Result<Subject, FileFault> {
+) -> Result<(), FileFault> {
     reader.take_open()?;
-    let mut subject = new_subject(reader, line, kind, name);
-    read_settings(reader, &mut subject, extras)?;
-    Ok(subject)
+    read_settings(reader, subject, extras)
 }

@@ -1,10 +1,7 @@
 //! Who is a member of which group, and what is said along a chain of them.
 
-use crate::names::LineNames;
-use basics::Bytes;
-use pol_names::{Kind, Name, Verdict};
-use std::alloc::{AllocError, Global};
-use std::collections::BTreeMap;
+use crate::draft::Draft;
+use pol_names::Verdict;
 use tac_plus_file::{Configuration, Password, Purpose, Service, Subject};
 
 /// How many subjects a chain has at most.
@@ -13,167 +10,91 @@ const MOST_SUBJECTS: usize = 8;
 /// How many blocks about commands of a subject are looked at: it has no more rules than these.
 pub(crate) const MOST_COMMANDS: usize = 256;
 
-/// How many users and groups a policy has at most.
-pub(crate) const MOST_IN_POLICY: usize = 1024;
-
-// Where groups stand in the file, by their names.
-type Places = BTreeMap<Vec<u8>, usize>;
-
-/// Groups by their names.
-#[derive(Drop)]
-pub(crate) struct Groups<'a> {
-    subjects: &'a [Subject],
-    places: Places,
-    // what the first groups are called in the policy, which has no more
-    names: BTreeMap<Vec<u8>, Bytes>,
-}
-
-/// A subject, its group, that one's group, and so on.
-pub(crate) type Chain<'a> = Vec<&'a Subject>;
-
-// Where each group stands.
-fn places_of(alloc: Global, subjects: &[Subject]) -> Result<Places, AllocError> {
-    let mut places = BTreeMap::new(alloc);
-    'subjects: for (place, subject) in subjects.iter().enumerate() {
-        if subject.kind == Kind::Group {
-            let name = Vec::from_slice(alloc, subject.name.as_slice())?;
-            places.insert(name, place)?;
-        }
+/// The group of this name.
+pub(crate) fn find_group<'a>(read: &'a Configuration, name: &[u8]) -> Option<&'a Subject> {
+    match read.groups.get(name) {
+        Some(place) => read.subjects.get(place.at),
+        None => None,
     }
-    Ok(places)
 }
 
-// A name that no group of the file has, made of this line.
-fn free_name(
-    alloc: Global,
-    places: &Places,
-    made: &mut LineNames,
-    line: usize,
-) -> Result<Bytes, AllocError> {
-    'names: for _ in 0..places.len() {
-        let name = made.next(alloc, line)?;
-        if !places.contains_key(name.as_slice()) {
-            return Ok(name);
-        }
+// The group that a subject is a member of, if the file has it.
+fn parent_of<'a>(read: &'a Configuration, subject: &Subject) -> Option<&'a Subject> {
+    match &subject.parent {
+        Some(parent) => find_group(read, parent.text.as_slice()),
+        None => None,
     }
-    made.next(alloc, line)
 }
 
-// What each of the first groups is called in the policy.
-fn names_of(
-    alloc: Global,
-    subjects: &[Subject],
-    places: &Places,
-) -> Result<BTreeMap<Vec<u8>, Bytes>, AllocError> {
-    let mut names = BTreeMap::new(alloc);
-    let mut made = LineNames::new();
-    let groups = subjects
-        .iter()
-        .filter(|subject| subject.kind == Kind::Group);
-    'groups: for group in groups.take(MOST_IN_POLICY) {
-        let name = group.name.as_slice();
-        let called = if Name::read(name).is_some() {
-            Bytes::from_slice(alloc, name)?
-        } else {
-            free_name(alloc, places, &mut made, group.line)?
+/// A subject, its group, that one's group, and so on; none where these are too many, or have no end.
+pub(crate) fn chain_of<'a>(
+    draft: &mut Draft,
+    read: &'a Configuration,
+    subject: &'a Subject,
+) -> Option<Vec<&'a Subject>> {
+    let mut chain = Vec::new(draft.alloc);
+    let mut next = Some(subject);
+    'chain: for _ in 0..MOST_SUBJECTS {
+        let Some(subject) = next else {
+            return Some(chain);
         };
-        names.insert(Vec::from_slice(alloc, name)?, called)?;
+        if chain.push(subject).is_err() {
+            draft.policy.cut();
+        }
+        next = parent_of(read, subject);
     }
-    Ok(names)
+    if next.is_some() {
+        return None;
+    }
+    Some(chain)
 }
 
-impl<'a> Groups<'a> {
-    pub(crate) fn new(alloc: Global, read: &'a Configuration) -> Result<Groups<'a>, AllocError> {
-        let subjects = read.subjects.as_slice();
-        let places = places_of(alloc, subjects)?;
-        let names = names_of(alloc, subjects, &places)?;
-        Ok(Groups {
-            subjects,
-            places,
-            names,
-        })
-    }
-
-    /// How many of them the policy may have.
-    pub(crate) fn count(&self) -> usize {
-        self.names.len()
-    }
-
-    /// Whether the policy may have a group.
-    pub(crate) fn has_room_for(&self, group: &Subject) -> bool {
-        self.names.contains_key(group.name.as_slice())
-    }
-
-    /// The group of this name.
-    pub(crate) fn find(&self, name: &[u8]) -> Option<&'a Subject> {
-        let place = *self.places.get(name)?;
-        self.subjects.get(place)
-    }
-
-    /// The group that a subject is a member of, if the file has it.
-    pub(crate) fn parent(&self, subject: &Subject) -> Option<&'a Subject> {
-        match &subject.parent {
-            Some(parent) => self.find(parent.text.as_slice()),
-            None => None,
-        }
-    }
-
-    /// The chain of a subject; none where it is too long, or has no end.
-    pub(crate) fn chain(
-        &self,
-        alloc: Global,
-        subject: &'a Subject,
-    ) -> Result<Option<Chain<'a>>, AllocError> {
-        let mut chain = Vec::new(alloc);
-        let mut next = Some(subject);
-        'chain: for _ in 0..MOST_SUBJECTS {
-            let Some(subject) = next else {
-                return Ok(Some(chain));
-            };
-            chain.push(subject)?;
-            next = self.parent(subject);
-        }
-        Ok(if next.is_none() { Some(chain) } else { None })
-    }
-
-    /// What a subject is called in the policy: a group by its line where a policy has no such
-    /// name.
-    pub(crate) fn name<'n>(&'n self, subject: &'n Subject) -> &'n [u8] {
-        let name = subject.name.as_slice();
-        match self.names.get(name) {
-            Some(called) if subject.kind == Kind::Group => called.as_slice(),
-            _ => name,
-        }
-    }
+/// What a subject does where nothing is listed.
+#[derive(Clone, Copy)]
+pub(crate) struct Standing {
+    pub(crate) default: Verdict,
+    /// Whether its groups may decide nothing, since they have another default.
+    pub(crate) is_apart: bool,
 }
 
-/// What a chain does where no command and no service is listed.
-pub(crate) fn default_of(chain: &[&Subject]) -> Verdict {
-    match chain.iter().find_map(|subject| subject.default) {
-        Some((_, verdict)) => verdict,
-        None => Verdict::Deny,
+// What a chain does where no command and no service is listed.
+fn default_of(chain: &[&Subject]) -> Verdict {
+    'chain: for subject in chain {
+        if let Some((_, verdict)) = subject.default {
+            return verdict;
+        }
+    }
+    Verdict::Deny
+}
+
+impl Standing {
+    pub(crate) fn new(chain: &[&Subject], groups: &[&Subject]) -> Standing {
+        let default = default_of(chain);
+        Standing {
+            default,
+            is_apart: !groups.is_empty() && default != default_of(groups),
+        }
     }
 }
 
 /// Whether one of so many first blocks of a subject is about the command.
 pub(crate) fn lists(subject: &Subject, most: usize, name: &[u8]) -> bool {
-    subject
-        .commands
-        .iter()
-        .take(most)
-        .any(|command| command.name.as_slice() == name)
+    'commands: for command in subject.commands.iter().take(most) {
+        if command.name.as_slice() == name {
+            return true;
+        }
+    }
+    false
 }
 
 /// Whether any of these has a block about the command.
 pub(crate) fn has_command(chain: &[&Subject], name: &[u8]) -> bool {
-    chain
-        .iter()
-        .any(|subject| lists(subject, MOST_COMMANDS, name))
-}
-
-/// The first service of a shell that a subject has.
-pub(crate) fn shell_of<'a>(subject: &'a Subject) -> Option<&'a Service> {
-    subject.services.iter().find(|service| is_shell(service))
+    'chain: for subject in chain {
+        if lists(subject, MOST_COMMANDS, name) {
+            return true;
+        }
+    }
+    false
 }
 
 /// Whether it is the service of a shell.
@@ -181,23 +102,43 @@ pub(crate) fn is_shell(service: &Service) -> bool {
     service.name.as_slice() == b"exec".as_slice()
 }
 
+/// The first service of a shell that a subject has.
+pub(crate) fn shell_of(subject: &Subject) -> Option<&Service> {
+    'services: for service in &subject.services {
+        if is_shell(service) {
+            return Some(service);
+        }
+    }
+    None
+}
+
 /// The nearest shell along a chain.
 pub(crate) fn nearest_shell<'a>(chain: &[&'a Subject]) -> Option<&'a Service> {
-    chain.iter().find_map(|subject| shell_of(subject))
+    'chain: for subject in chain {
+        if let Some(shell) = shell_of(subject) {
+            return Some(shell);
+        }
+    }
+    None
 }
 
 // The first password for this that a subject has.
-fn password_of<'a>(subject: &'a Subject, purpose: Purpose) -> Option<&'a Password> {
-    subject
-        .passwords
-        .iter()
-        .find(|password| password.purpose == purpose)
+fn password_of(subject: &Subject, purpose: Purpose) -> Option<&Password> {
+    'passwords: for password in &subject.passwords {
+        if password.purpose == purpose {
+            return Some(password);
+        }
+    }
+    None
 }
 
 fn nearest_for<'a>(chain: &[&'a Subject], purpose: Purpose) -> Option<&'a Password> {
-    chain
-        .iter()
-        .find_map(|subject| password_of(subject, purpose))
+    'chain: for subject in chain {
+        if let Some(password) = password_of(subject, purpose) {
+            return Some(password);
+        }
+    }
+    None
 }
 
 /// The password that is used along a chain: the nearest for this, and else the nearest that takes
@@ -206,7 +147,10 @@ pub(crate) fn nearest_password<'a>(
     chain: &[&'a Subject],
     purposes: &[Purpose],
 ) -> Option<&'a Password> {
-    purposes
-        .iter()
-        .find_map(|purpose| nearest_for(chain, *purpose))
+    'purposes: for purpose in purposes {
+        if let Some(password) = nearest_for(chain, *purpose) {
+            return Some(password);
+        }
+    }
+    None
 }

@@ -1,14 +1,13 @@
 //! The rules that a command's block becomes.
 
-use crate::remark::{Remark, What, tell};
-use crate::rules::{Rules, pattern_for};
+use crate::draft::Draft;
 use pol_names::Verdict;
-use posix_expression::{ExpressionFault, Search, Unsaid};
-use std::alloc::{AllocError, Global};
+use pol_pattern::{Pattern, PatternFault};
+use posix_expression::{Search, Text, Unsaid};
 use tac_plus_file::{Command, Rule};
 
-// What is searched for by rules of one verdict that stand one after another.
-struct Pending {
+/// What is searched for by rules of one verdict that stand one after another.
+pub(crate) struct Pending {
     verdict: Verdict,
     search: Search,
 }
@@ -23,134 +22,150 @@ impl Drop for Pending {
     }
 }
 
-/// Rules of a command, and what is told of them.
-#[derive(Drop)]
-pub(crate) struct Block<'r, 'm> {
-    pub(crate) alloc: Global,
-    pub(crate) rules: &'r mut Rules,
-    /// Where what is told goes, if it wasn't told before.
-    pub(crate) remarks: Option<&'m mut Vec<Remark>>,
-}
-
-// What a rule searches for, if a policy may have the pattern.
-fn search_of(alloc: Global, name: &[u8], rule: &Rule) -> Result<Search, ExpressionFault> {
-    let search = Search::read(alloc, rule.expression.as_slice())?;
-    let pattern = pattern_for(alloc, name, &search)?;
-    if pattern.is_none() {
-        return Err(ExpressionFault::Unsaid(Unsaid::TooLarge));
-    }
-    Ok(search)
-}
-
-// What is found where either is, if a policy may have the pattern.
-fn either(
-    alloc: Global,
-    name: &[u8],
-    pending: &Pending,
-    verdict: Verdict,
-    search: &Search,
-) -> Result<Option<Search>, AllocError> {
-    if pending.verdict != verdict {
-        return Ok(None);
-    }
-    let Some(both) = pending.search.or(alloc, search)? else {
-        return Ok(None);
-    };
-    let pattern = pattern_for(alloc, name, &both)?;
-    Ok(if pattern.is_some() { Some(both) } else { None })
-}
-
-impl Block<'_, '_> {
-    fn tell_of(&mut self, rule: &Rule, why: Unsaid) -> Result<(), AllocError> {
-        let what = match rule.verdict {
-            Verdict::Permit => What::NotPermitted(why),
-            Verdict::Deny => What::AllDenied(why),
-        };
-        match &mut self.remarks {
-            Some(remarks) => tell(
-                remarks,
-                self.alloc,
-                rule.line,
-                what,
-                rule.expression.as_slice(),
-            ),
-            None => Ok(()),
+impl Draft {
+    // Whether a policy may have the pattern: it has at most 400 bytes and 400 factors.
+    fn may_have(&mut self, pattern: &Text) -> bool {
+        match Pattern::read(self.alloc, pattern.as_slice()) {
+            Ok(_) => !pattern.is_cut(),
+            Err(PatternFault::Memory) => {
+                self.policy.cut();
+                false
+            }
+            Err(_) => false,
         }
     }
 
-    // The rules of what was searched for so far.
-    fn push_pending(&mut self, name: &[u8], pending: &Option<Pending>) -> Result<(), AllocError> {
-        match pending {
-            Some(pending) => self
-                .rules
-                .push_search(pending.verdict, name, &pending.search),
-            None => Ok(()),
+    // The pattern of a command's lines whose arguments have what is searched for, if a policy may have
+    // it. A line without arguments is the command alone.
+    fn pattern_of(&mut self, name: &[u8], search: &Search) -> Option<Text> {
+        let mut pattern = Text::new(self.alloc);
+        pattern.spell_all(name);
+        if search.is_optional() {
+            pattern.add(b"( ");
+            search.write(&mut pattern);
+            pattern.add(b")?");
+        } else {
+            pattern.push(b' ');
+            search.write(&mut pattern);
+        }
+        if pattern.is_cut() {
+            self.policy.cut();
+        }
+        if self.may_have(&pattern) {
+            Some(pattern)
+        } else {
+            None
         }
     }
 
-    // What is pending after one more search.
-    fn after(
+    // What a rule searches for, if a policy may have the pattern.
+    fn search_of(&mut self, name: &[u8], rule: &Rule) -> Result<Search, Unsaid> {
+        let search = Search::read(self.alloc, rule.expression.as_slice())?;
+        if self.pattern_of(name, &search).is_none() {
+            return Err(Unsaid::TooLarge);
+        }
+        Ok(search)
+    }
+
+    // Adds a rule about what is searched for.
+    fn push_search(&mut self, verdict: Verdict, name: &[u8], search: &Search) {
+        if let Some(pattern) = self.pattern_of(name, search) {
+            self.push_rule(verdict, pattern.as_slice());
+        }
+    }
+
+    // Denies all lines of a command that no rule decided.
+    fn deny_command(&mut self, name: &[u8]) {
+        let search = Search::everything(self.alloc);
+        self.push_search(Verdict::Deny, name, &search);
+    }
+
+    // Adds the rule that is pending.
+    fn push_pending(&mut self, name: &[u8]) {
+        if let Some(pending) = self.pending.take() {
+            self.push_search(pending.verdict, name, &pending.search);
+        }
+    }
+
+    // What is found where either is, if both have one verdict and a policy may have the pattern.
+    fn either(
         &mut self,
         name: &[u8],
-        pending: Option<Pending>,
+        before: &Pending,
         verdict: Verdict,
-        search: Search,
-    ) -> Result<Option<Pending>, AllocError> {
-        if let Some(before) = &pending {
-            if let Some(search) = either(self.alloc, name, before, verdict, &search)? {
-                return Ok(Some(Pending { verdict, search }));
-            }
-            self.push_pending(name, &pending)?;
+        search: &Search,
+    ) -> Option<Search> {
+        if before.verdict != verdict {
+            return None;
         }
-        Ok(Some(Pending { verdict, search }))
+        let both = before.search.or(self.alloc, search)?;
+        if self.pattern_of(name, &both).is_none() {
+            return None;
+        }
+        Some(both)
     }
 
-    // What is pending after the rules, and whether they decide all lines. A rule that permits and
-    // can't be said is left out. One that denies has to keep what follows it from permitting, so
-    // the command is denied from there on. Where the subject may have no more rules, the rest isn't
-    // looked at.
-    fn push_rules(&mut self, command: &Command) -> Result<(Option<Pending>, bool), AllocError> {
+    // One more rule, which is pending from now on, with the one before it if one pattern says both.
+    fn take_search(&mut self, name: &[u8], verdict: Verdict, search: Search) {
+        let mut search = search;
+        if let Some(before) = self.pending.take() {
+            match self.either(name, &before, verdict, &search) {
+                Some(both) => search = both,
+                None => self.push_search(before.verdict, name, &before.search),
+            }
+        }
+        self.pending = Some(Pending { verdict, search });
+    }
+
+    // That a rule can't be said.
+    fn tell_rule(&mut self, rule: &Rule, why: Unsaid) {
+        let word = rule.expression.as_slice();
+        let (before, after) = match rule.verdict {
+            Verdict::Permit => ("permit ", ": left out"),
+            Verdict::Deny => ("deny ", ": the command is denied from here on"),
+        };
+        self.remark(rule.line, before, word, &[": ", why.text(), after], true);
+    }
+
+    // Adds the rules of a command, but for one that is pending, and answers whether they decide all
+    // its lines. A rule that permits and can't be said is left out. One that denies has to keep what
+    // follows it from permitting, so the command is denied from there on. Where the subject may have
+    // no more rules, the rest isn't looked at.
+    fn push_rules(&mut self, command: &Command) -> bool {
         let name = command.name.as_slice();
-        let mut pending = None;
         'rules: for rule in &command.rules {
-            if self.rules.is_cut {
-                break;
+            if self.is_full {
+                return false;
             }
-            match search_of(self.alloc, name, rule) {
+            match self.search_of(name, rule) {
                 Ok(search) => {
-                    let decides_all = search.is_everything;
-                    pending = self.after(name, pending, rule.verdict, search)?;
+                    let decides_all = search.is_everything();
+                    self.take_search(name, rule.verdict, search);
                     if decides_all {
-                        return Ok((pending, true));
+                        return true;
                     }
                 }
-                Err(ExpressionFault::Memory) => return Err(AllocError),
-                Err(ExpressionFault::Unsaid(why)) => {
-                    self.tell_of(rule, why)?;
+                Err(why) => {
+                    self.tell_rule(rule, why);
                     if rule.verdict == Verdict::Deny {
-                        self.push_pending(name, &pending)?;
-                        self.rules.push_rest(Verdict::Deny, name)?;
-                        return Ok((None, true));
+                        self.push_pending(name);
+                        self.deny_command(name);
+                        return true;
                     }
                 }
             }
         }
-        Ok((pending, false))
+        false
     }
 
-    /// The rules of a command. Where others may decide on it below, its last rule denies what none
-    /// of them decides.
-    pub(crate) fn push_command(
-        &mut self,
-        command: &Command,
-        is_decided_below: bool,
-    ) -> Result<(), AllocError> {
+    /// Adds the rules of a command. Where others may decide on it below, its last rule denies what
+    /// none of them decides.
+    pub(crate) fn push_command(&mut self, command: &Command, is_decided_below: bool) {
         let name = command.name.as_slice();
-        let (pending, decides_all) = self.push_rules(command)?;
-        self.push_pending(name, &pending)?;
+        let decides_all = self.push_rules(command);
+        self.push_pending(name);
         if is_decided_below && !decides_all {
-            self.rules.push_rest(Verdict::Deny, name)?;
+            self.deny_command(name);
         }
-        Ok(())
     }
 }

@@ -1,12 +1,15 @@
 //! A whole file, as a policy.
 
-use crate::chain::{Groups, MOST_IN_POLICY};
+use crate::chain::{chain_of, find_group};
+use crate::draft::Draft;
 use crate::hosts::{devices_of, tell_hosts};
-use crate::remark::{Remark, What, tell};
+use crate::names::{MOST_IN_POLICY, is_name};
+use crate::remark::{Remark, What, told_of};
 use crate::secrets::is_secret;
 use crate::subjects::write_subject;
-use pol_names::{Kind, Name};
-use std::alloc::{AllocError, Global};
+use pol_names::Kind;
+use posix_expression::Text;
+use std::alloc::Global;
 use tac_plus_file::{Configuration, FileFault, Subject, read_configuration};
 
 /// What is wanted beside the policy.
@@ -42,247 +45,131 @@ impl Drop for Import {
 impl Import {
     /// Whether something isn't said.
     pub fn leaves_out(&self) -> bool {
-        self.remarks.iter().any(|remark| remark.what.is_left_out())
+        'remarks: for remark in &self.remarks {
+            if remark.is_left_out {
+                return true;
+            }
+        }
+        false
     }
 }
 
 // Why a user isn't in the policy.
 fn user_finding(name: &[u8]) -> Option<What> {
     if name == b"DEFAULT".as_slice() {
-        return Some(What::DefaultUser);
-    }
-    if name.starts_with(b"$enab") {
-        return Some(What::EnableUser);
-    }
-    match Name::read(name) {
-        Some(_) => None,
-        None => Some(What::UserName),
-    }
-}
-
-// Why a group isn't in the policy. What it takes over from a group above it can't be left out, so
-// it goes with that one.
-fn group_finding(groups: &Groups<'_>, group: &Subject, chain: &[&Subject]) -> Option<What> {
-    if !groups.has_room_for(group) {
-        return Some(What::TooManySubjects);
-    }
-    let are_kept = chain.iter().all(|above| groups.has_room_for(above));
-    if are_kept {
+        Some(What::DEFAULT_USER)
+    } else if name.starts_with(b"$enab") {
+        Some(What::ENABLE_USER)
+    } else if is_name(name) {
         None
     } else {
-        Some(What::GroupLeftOut)
+        Some(What::USER_NAME)
     }
 }
 
-// What is told of a subject's own name and of its group's.
-fn tell_names(
-    alloc: Global,
-    groups: &Groups<'_>,
-    subject: &Subject,
-    remarks: &mut Vec<Remark>,
-) -> Result<(), AllocError> {
+// Why there is no room for a group. What it takes over from a group above it can't be left out, so
+// it goes with that one.
+fn group_finding(group: &Subject, chain: &[&Subject]) -> Option<What> {
+    if group.number >= MOST_IN_POLICY {
+        return Some(What::TOO_MANY_SUBJECTS);
+    }
+    'chain: for above in chain {
+        if above.number >= MOST_IN_POLICY {
+            return Some(What::GROUP_LEFT_OUT);
+        }
+    }
+    None
+}
+
+// Takes room for one more user, or answers what is told where there is none.
+fn take_room(draft: &mut Draft) -> Option<What> {
+    match draft.room.checked_sub(1) {
+        Some(left) => {
+            draft.room = left;
+            None
+        }
+        None => Some(What::TOO_MANY_SUBJECTS),
+    }
+}
+
+// Tells of a subject's own name and of its group's.
+fn tell_names(draft: &mut Draft, read: &Configuration, subject: &Subject) {
     let name = subject.name.as_slice();
-    if subject.kind == Kind::Group && Name::read(name).is_none() {
-        tell(remarks, alloc, subject.line, What::Renamed, name)?;
+    if subject.kind == Kind::Group && !is_name(name) {
+        draft.tell(subject.line, What::RENAMED, name);
     }
     if let Some(parent) = &subject.parent {
         let name = parent.text.as_slice();
-        if groups.find(name).is_none() {
-            tell(remarks, alloc, parent.line, What::NoGroup, name)?;
+        if find_group(read, name).is_none() {
+            draft.tell(parent.line, What::NO_GROUP, name);
         }
-    }
-    Ok(())
-}
-
-// A policy that is written, one subject after another.
-struct Draft {
-    alloc: Global,
-    body: Vec<u8>,
-    // whether only version 3 has what is written
-    is_third: bool,
-    // how many more users there may be
-    room: usize,
-    remarks: Vec<Remark>,
-}
-
-// By hand, as above.
-impl Drop for Draft {
-    fn drop(self) {
-        let Draft {
-            alloc: _,
-            body: _,
-            is_third: _,
-            room: _,
-            remarks: _,
-        } = self;
     }
 }
 
-impl Draft {
-    // A policy, where there is room for each of these groups, and then for users.
-    fn new(alloc: Global, groups: &Groups<'_>) -> Draft {
-        Draft {
-            alloc,
-            body: Vec::new(alloc),
-            is_third: false,
-            room: MOST_IN_POLICY.saturating_sub(groups.count()),
-            remarks: Vec::new(alloc),
+// Writes a subject, or tells why it isn't in the policy.
+fn add_subject(draft: &mut Draft, read: &Configuration, subject: &Subject) {
+    let name = subject.name.as_slice();
+    if subject.kind == Kind::User {
+        if let Some(what) = user_finding(name) {
+            return draft.tell(subject.line, what, name);
         }
     }
-
-    fn tell(&mut self, line: usize, what: What, word: &[u8]) -> Result<(), AllocError> {
-        tell(&mut self.remarks, self.alloc, line, what, word)
+    let Some(chain) = chain_of(draft, read, subject) else {
+        return draft.tell(subject.line, What::TOO_DEEP, name);
+    };
+    let found = match subject.kind {
+        Kind::User => take_room(draft),
+        Kind::Group => group_finding(subject, chain.as_slice()),
+    };
+    if let Some(what) = found {
+        return draft.tell(subject.line, what, name);
     }
+    tell_names(draft, read, subject);
+    write_subject(draft, chain.as_slice());
+}
 
-    // Takes room for one more user, or answers what is told where there is none.
-    fn take_room(&mut self) -> Option<What> {
-        match self.room.checked_sub(1) {
-            Some(left) => {
-                self.room = left;
-                None
-            }
-            None => Some(What::TooManySubjects),
-        }
+// What a policy says of the users and groups.
+fn add_subjects(draft: &mut Draft, read: &Configuration) {
+    draft.call_groups(read);
+    'subjects: for subject in &read.subjects {
+        add_subject(draft, read, subject);
     }
+}
 
-    // Writes a subject, or tells why it isn't in the policy.
-    fn add<'a>(&mut self, groups: &Groups<'a>, subject: &'a Subject) -> Result<(), AllocError> {
-        let name = subject.name.as_slice();
-        if subject.kind == Kind::User {
-            if let Some(what) = user_finding(name) {
-                return self.tell(subject.line, what, name);
-            }
-        }
-        let Some(chain) = groups.chain(self.alloc, subject)? else {
-            return self.tell(subject.line, What::TooDeep, name);
-        };
-        let cut = match subject.kind {
-            Kind::User => self.take_room(),
-            Kind::Group => group_finding(groups, subject, chain.as_slice()),
-        };
-        if let Some(what) = cut {
-            return self.tell(subject.line, what, name);
-        }
-        tell_names(self.alloc, groups, subject, &mut self.remarks)?;
-        let is_third = write_subject(
-            &mut self.body,
-            self.alloc,
-            groups,
-            chain.as_slice(),
-            &mut self.remarks,
-        )?;
-        self.is_third = self.is_third || is_third;
-        Ok(())
-    }
-
-    fn add_all<'a>(
-        &mut self,
-        groups: &Groups<'a>,
-        subjects: &'a [Subject],
-    ) -> Result<(), AllocError> {
-        'subjects: for subject in subjects {
-            self.add(groups, subject)?;
-        }
-        Ok(())
-    }
-
-    // The text of the policy, in the least version that has all of it.
-    fn text(&self) -> Result<Vec<u8>, AllocError> {
-        let first: &[u8] = if self.is_third {
-            b"policy 3\n"
-        } else {
-            b"policy 2\n"
-        };
-        let mut text = Vec::from_slice(self.alloc, first)?;
-        text.extend_from_slice(self.body.as_slice())?;
-        Ok(text)
-    }
-
-    // All of it, with what is written beside the policy.
-    fn finish(self, key: Option<Vec<u8>>, devices: Option<Vec<u8>>) -> Result<Import, AllocError> {
-        let policy = self.text()?;
-        let Draft {
-            alloc: _,
-            body: _,
-            is_third: _,
-            room: _,
-            remarks,
-        } = self;
-        let mut remarks = remarks;
-        remarks.sort_by_key(|remark| remark.line)?;
-        Ok(Import {
-            policy,
-            key,
-            devices,
-            remarks,
-        })
+fn tell_extras(draft: &mut Draft, read: &Configuration) {
+    'extras: for extra in &read.extras {
+        let (word, text) = told_of(extra.setting);
+        draft.remark(extra.line, "", word.as_bytes(), &[text], true);
     }
 }
 
 // The first line of a key's file, if the key may stand.
-fn key_text(
-    alloc: Global,
-    read: &Configuration,
-    wanted: Wanted,
-    remarks: &mut Vec<Remark>,
-) -> Result<Option<Vec<u8>>, AllocError> {
+fn key_text(draft: &mut Draft, read: &Configuration, wanted: Wanted) -> Option<Vec<u8>> {
     let Some(key) = &read.key else {
-        return Ok(None);
+        return None;
     };
     let text = key.text.as_slice();
     if !wanted.key && !wanted.devices {
-        tell(remarks, alloc, key.line, What::KeyUnasked, b"key")?;
+        draft.tell(key.line, What::KEY_UNASKED, b"key");
     } else if !is_secret(text) {
-        tell(remarks, alloc, key.line, What::KeyText, b"key")?;
+        draft.tell(key.line, What::SECRET, b"key");
     } else if wanted.key {
-        let mut line = Vec::from_slice(alloc, text)?;
-        line.push(b'\n')?;
-        return Ok(Some(line));
+        let mut line = Text::new(draft.alloc);
+        line.add(text);
+        line.push(b'\n');
+        return Some(draft.bytes_of(line));
     }
-    Ok(None)
+    None
 }
 
-fn devices_text(
-    alloc: Global,
-    read: &Configuration,
-    wanted: Wanted,
-    remarks: &mut Vec<Remark>,
-) -> Result<Option<Vec<u8>>, AllocError> {
+// The text of a devices' file, if it is wanted.
+fn devices_text(draft: &mut Draft, read: &Configuration, wanted: Wanted) -> Option<Vec<u8>> {
     if wanted.devices {
-        let devices = devices_of(alloc, read, remarks)?;
-        return Ok(Some(devices));
+        let devices = devices_of(draft, read);
+        return Some(draft.bytes_of(devices));
     }
-    tell_hosts(alloc, read, remarks)?;
-    Ok(None)
-}
-
-fn tell_extras(
-    alloc: Global,
-    read: &Configuration,
-    remarks: &mut Vec<Remark>,
-) -> Result<(), AllocError> {
-    'extras: for extra in &read.extras {
-        tell(
-            remarks,
-            alloc,
-            extra.line,
-            What::NoEqual(extra.setting),
-            b"",
-        )?;
-    }
-    Ok(())
-}
-
-// What was read, as a policy.
-fn import_read(alloc: Global, read: &Configuration, wanted: Wanted) -> Result<Import, AllocError> {
-    let subjects = read.subjects.as_slice();
-    let groups = Groups::new(alloc, read)?;
-    let mut draft = Draft::new(alloc, &groups);
-    draft.add_all(&groups, subjects)?;
-    tell_extras(alloc, read, &mut draft.remarks)?;
-    let key = key_text(alloc, read, wanted, &mut draft.remarks)?;
-    let devices = devices_text(alloc, read, wanted, &mut draft.remarks)?;
-    draft.finish(key, devices)
+    tell_hosts(draft, read);
+    None
 }
 
 /// What a file of tac_plus F4.0.4 becomes, and what is told of it; or the first line that isn't one
@@ -292,6 +179,10 @@ fn import_read(alloc: Global, read: &Configuration, wanted: Wanted) -> Result<Im
 /// the look-up of names and the sorting of remarks.
 pub fn import_file(alloc: Global, text: &[u8], wanted: Wanted) -> Result<Import, FileFault> {
     let read = read_configuration(alloc, text)?;
-    let imported = import_read(alloc, &read, wanted)?;
-    Ok(imported)
+    let mut draft = Draft::new(alloc);
+    add_subjects(&mut draft, &read);
+    tell_extras(&mut draft, &read);
+    let key = key_text(&mut draft, &read, wanted);
+    let devices = devices_text(&mut draft, &read, wanted);
+    draft.finish(key, devices)
 }

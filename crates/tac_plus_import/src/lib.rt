@@ -3,15 +3,14 @@
 
 mod chain;
 mod commands;
+mod draft;
 mod hosts;
 mod importing;
 mod names;
 mod remark;
-mod rules;
 mod secrets;
 mod services;
 mod subjects;
-mod text;
 
 pub use importing::{Import, Wanted, import_file};
-pub use remark::{Remark, What};
+pub use remark::Remark;

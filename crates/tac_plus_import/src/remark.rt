@@ -1,255 +1,207 @@
 //! What is told of a file's lines: what was left out, and what was decided.
 
-use basics::{Bytes, is_symbol};
-use posix_expression::Unsaid;
-use std::alloc::{AllocError, Global};
 use std::{fmt, str};
 use tac_plus_file::{Purpose, Setting};
 
-/// What is told.
-#[derive(Clone, Copy, Debug, PartialEq, Eq)]
-pub enum What {
-    /// A setting without an equal.
-    NoEqual(Setting),
-    /// The word is an expression that can't be said, of a rule that permits.
-    NotPermitted(Unsaid),
-    /// The same of a rule that denies.
-    AllDenied(Unsaid),
-    /// The word is no command of one word.
-    CommandName,
-    SecondCommand,
-    SecondService,
-    /// How this password is kept isn't known here.
-    Method(Purpose),
-    /// It is no secret of a policy.
-    Secret(Purpose),
-    /// It isn't the password that the user logs in with.
-    OtherPassword(Purpose),
-    /// Another was there before it.
-    SecondEnable,
-    /// It is the password that the user logs in with here.
-    IsLogin(Purpose),
-    UserName,
-    DefaultUser,
-    EnableUser,
-    Renamed,
-    NoGroup,
-    TooDeep,
-    TooManySubjects,
-    GroupLeftOut,
-    TooManyRules,
-    TooManyLines,
-    ServiceName,
-    ShellService,
-    Attribute,
-    Level,
-    OptionalLevel,
-    LevelOne,
-    AllServices,
-    Copied,
-    KeyUnasked,
-    HostUnasked,
-    KeyText,
-    HostAddress,
-    SameAddress,
-    HostKey,
-    TooManyHosts,
+/// What is told of a word, by what stands after it.
+#[derive(Clone, Copy)]
+pub(crate) enum What {
+    /// Something isn't said.
+    LeftOut(&'static str),
+    /// Something was only decided.
+    Decided(&'static str),
 }
 
 impl What {
-    /// Whether something isn't said: the rest was only decided.
-    pub fn is_left_out(&self) -> bool {
-        !matches!(
-            self,
-            What::SecondCommand
-                | What::SecondService
-                | What::IsLogin(_)
-                | What::Renamed
-                | What::OptionalLevel
-                | What::LevelOne
-                | What::Copied
-        )
-    }
+    pub(crate) const COMMAND_NAME: What = What::LeftOut(" is no command of one word: left out");
+
+    pub(crate) const SECOND_COMMAND: What = What::Decided(
+        " is a second 'cmd' of this name, and the first decides",
+    );
+
+    pub(crate) const SECOND_SERVICE: What = What::Decided(
+        " is a second 'service' of this name, and the first decides",
+    );
+
+    pub(crate) const METHOD: What = What::LeftOut(
+        " is no password in the clear and no hash that begins with '$6$': left out",
+    );
+
+    pub(crate) const SECRET: What = What::LeftOut(" isn't 1 to 128 printable characters: left out");
+
+    pub(crate) const OTHER_PASSWORD: What = What::LeftOut(
+        " isn't the login, and a user has one here: left out",
+    );
+
+    pub(crate) const IS_LOGIN: What = What::Decided(" is the login here, by whichever way");
+
+    pub(crate) const SECOND_ENABLE: What = What::LeftOut(
+        " is a second one, and the first counts: left out",
+    );
+
+    pub(crate) const USER_NAME: What = What::LeftOut(" is no name of a user here: left out");
+
+    pub(crate) const DEFAULT_USER: What = What::LeftOut(
+        " stands for all who aren't listed, and here each user is: left out",
+    );
+
+    pub(crate) const ENABLE_USER: What = What::LeftOut(
+        " is a secret for all, and here each user has an 'enable': left out",
+    );
+
+    pub(crate) const RENAMED: What = What::Decided(
+        " is no name of a group here, so it is called by its line",
+    );
+
+    pub(crate) const NO_GROUP: What = What::LeftOut(" is no group of the file: left out");
+
+    pub(crate) const TOO_DEEP: What = What::LeftOut(
+        " is in over 7 groups above one another, or in a circle: left out",
+    );
+
+    pub(crate) const TOO_MANY_SUBJECTS: What = What::LeftOut(
+        " is beyond the 1024th of users and groups: left out",
+    );
+
+    pub(crate) const GROUP_LEFT_OUT: What = What::LeftOut(
+        " is in a group that is left out: left out",
+    );
+
+    pub(crate) const TOO_MANY_RULES: What = What::LeftOut(
+        " has over 255 rules: the rest is left out and denied",
+    );
+
+    pub(crate) const TOO_MANY_LINES: What = What::LeftOut(
+        " is beyond the 64th line about services: left out",
+    );
+
+    pub(crate) const SERVICE_NAME: What = What::LeftOut(" is no service here: left out");
+
+    pub(crate) const SHELL_SERVICE: What = What::LeftOut(
+        " is asked for as a shell, which 'exec' is: left out",
+    );
+
+    pub(crate) const ATTRIBUTE: What = What::LeftOut(" is no attribute here: left out");
+
+    pub(crate) const LEVEL: What = What::LeftOut(
+        " is no level of 0 to 15, or a second one: left out",
+    );
+
+    pub(crate) const OPTIONAL_LEVEL: What = What::Decided(" is given as mandatory here");
+
+    pub(crate) const LEVEL_ONE: What = What::Decided(
+        " has no 'priv-lvl' and its groups have one: 'priv 1' is written",
+    );
+
+    pub(crate) const ALL_SERVICES: What = What::LeftOut(
+        " permits services that nobody lists, which are refused here: left out",
+    );
+
+    pub(crate) const COPIED: What = What::Decided(
+        " has another default than its group, so it repeats the group's commands",
+    );
+
+    pub(crate) const KEY_UNASKED: What = What::LeftOut(
+        " is written by '--key-to' or '--devices-to': left out",
+    );
+
+    pub(crate) const HOST_UNASKED: What = What::LeftOut(" is written by '--devices-to': left out");
+
+    pub(crate) const HOST_ADDRESS: What = What::LeftOut(" is no IP address: left out");
+
+    pub(crate) const SAME_ADDRESS: What = What::LeftOut(
+        " is the address of an earlier host: left out",
+    );
+
+    pub(crate) const HOST_KEY: What = What::LeftOut(" has no key: left out");
+
+    pub(crate) const TOO_MANY_HOSTS: What = What::LeftOut(" is beyond the 4095th device: left out");
 }
 
-// The words by which a file sets this.
-fn setting_word(setting: Setting) -> &'static str {
+/// The words by which a file sets this, and what is told of them.
+pub(crate) fn told_of(setting: Setting) -> (&'static str, &'static str) {
+    let devices = " has no equal here, '--devices' says which devices may call: left out";
+    let syslog = " isn't set here, rsyslog can send on what 'serve --log PATH' writes: left out";
+    let nothing = " has no equal here: left out";
     match setting {
-        Setting::AccessList => "acl",
-        Setting::AccountingFile => "accounting file",
-        Setting::AccountingSyslog => "accounting syslog",
-        Setting::AfterAuthorization => "after authorization",
-        Setting::BeforeAuthorization => "before authorization",
-        Setting::DefaultAuthentication => "default authentication",
-        Setting::DefaultAuthorization => "default authorization",
-        Setting::EnableAccessList => "enableacl",
-        Setting::Expires => "expires",
-        Setting::HostEnable => "enable",
-        Setting::HostPrompt => "prompt",
-        Setting::HostType => "type",
-        Setting::Logging => "logging",
-        Setting::MaxSessions => "maxsess",
-        Setting::Message => "message",
+        Setting::AccessList => ("acl", devices),
+        Setting::AccountingFile => (
+            "accounting file",
+            " isn't set here, 'serve --log PATH' writes each record: left out",
+        ),
+        Setting::AccountingSyslog => ("accounting syslog", syslog),
+        Setting::AfterAuthorization => ("after authorization", nothing),
+        Setting::BeforeAuthorization => ("before authorization", nothing),
+        Setting::DefaultAuthentication => (
+            "default authentication",
+            " has no equal here, each user has a login of its own: left out",
+        ),
+        Setting::DefaultAuthorization => (
+            "default authorization",
+            " has no equal here, each user is listed: left out",
+        ),
+        Setting::EnableAccessList => ("enableacl", devices),
+        Setting::Expires => ("expires", nothing),
+        Setting::HostEnable => (
+            "enable",
+            " has no equal here, each user has an 'enable' of its own: left out",
+        ),
+        Setting::HostPrompt => ("prompt", nothing),
+        Setting::HostType => ("type", nothing),
+        Setting::Logging => ("logging", syslog),
+        Setting::MaxSessions => ("maxsess", nothing),
+        Setting::Message => ("message", nothing),
     }
 }
 
-// What is to be done in its place.
-fn instead_of(setting: Setting) -> &'static str {
-    match setting {
-        Setting::AccessList | Setting::EnableAccessList => {
-            " has no equal here, '--devices' says which devices may call"
-        }
-        Setting::AccountingFile => " isn't set here, 'serve --log PATH' writes each record",
-        Setting::AccountingSyslog | Setting::Logging => {
-            " isn't set here, rsyslog can send on what 'serve --log PATH' writes"
-        }
-        Setting::DefaultAuthentication => " has no equal here, each user has a login of its own",
-        Setting::DefaultAuthorization => " has no equal here, each user is listed",
-        Setting::HostEnable => " has no equal here, each user has an 'enable' of its own",
-        _ => " has no equal here",
-    }
-}
-
-fn purpose_word(purpose: Purpose) -> &'static str {
+/// The word by which a file gives such a password.
+pub(crate) fn purpose_word(purpose: Purpose) -> &'static [u8] {
     match purpose {
-        Purpose::Login => "login",
-        Purpose::Enable => "enable",
-        Purpose::Pap => "pap",
-        Purpose::Chap => "chap",
-        Purpose::MsChap => "ms-chap",
-        Purpose::Arap => "arap",
-        Purpose::OutboundPap => "opap",
-        Purpose::Global => "global",
-    }
-}
-
-// What is told of a password.
-fn write_password<W: fmt::Write>(f: &mut fmt::Formatter<W>, what: What) -> fmt::Result {
-    match what {
-        What::Method(purpose) => {
-            let word = purpose_word(purpose);
-            write!(
-                f,
-                "'{word}' is no password in the clear and no hash that begins with '$6$': left out"
-            )
-        }
-        What::Secret(purpose) => {
-            let word = purpose_word(purpose);
-            write!(f, "'{word}' isn't 1 to 128 printable characters: left out")
-        }
-        What::OtherPassword(purpose) => {
-            let word = purpose_word(purpose);
-            write!(
-                f,
-                "'{word}' isn't the login, and a user has one here: left out"
-            )
-        }
-        What::IsLogin(purpose) => {
-            let word = purpose_word(purpose);
-            write!(f, "'{word}' is the login here, by whichever way")
-        }
-        _ => Ok(()),
-    }
-}
-
-// What is told of anything but passwords and expressions, in words that are always the same.
-fn fixed_text(what: What) -> &'static str {
-    match what {
-        What::CommandName => " is no command of one word: left out",
-        What::SecondCommand => " is a second 'cmd' of this name, and the first decides",
-        What::SecondService => " is a second 'service' of this name, and the first decides",
-        What::SecondEnable => " is a second one, and the first counts: left out",
-        What::UserName => " is no name of a user here: left out",
-        What::DefaultUser => " stands for all who aren't listed, and here each user is: left out",
-        What::EnableUser => " is a secret for all, and here each user has an 'enable': left out",
-        What::Renamed => " is no name of a group here, so it is called by its line",
-        What::NoGroup => " is no group of the file: left out",
-        What::TooDeep => " is in over 7 groups above one another, or in a circle: left out",
-        What::TooManySubjects => " is beyond the 1024th of users and groups: left out",
-        What::GroupLeftOut => " is in a group that is left out: left out",
-        What::TooManyRules => " has over 255 rules: the rest is left out and denied",
-        What::TooManyLines => " is beyond the 64th line about services: left out",
-        What::ServiceName => " is no service here: left out",
-        What::ShellService => " is asked for as a shell, which 'exec' is: left out",
-        What::Attribute => " is no attribute here: left out",
-        What::Level => " is no level of 0 to 15, or a second one: left out",
-        What::OptionalLevel => " is given as mandatory here",
-        What::LevelOne => " has no 'priv-lvl' and its groups have one: 'priv 1' is written",
-        What::AllServices =>
-            " permits services that nobody lists, which are refused here: left out",
-        What::Copied => " has another default than its group, so it repeats the group's commands",
-        What::KeyUnasked => " is written by '--key-to' or '--devices-to': left out",
-        What::HostUnasked => " is written by '--devices-to': left out",
-        What::KeyText => " isn't 1 to 128 printable characters: left out",
-        What::HostAddress => " is no IP address: left out",
-        What::SameAddress => " is the address of an earlier host: left out",
-        What::HostKey => " has no key: left out",
-        What::TooManyHosts => " is beyond the 4095th device: left out",
-        _ => "",
+        Purpose::Login => b"login",
+        Purpose::Enable => b"enable",
+        Purpose::Pap => b"pap",
+        Purpose::Chap => b"chap",
+        Purpose::MsChap => b"ms-chap",
+        Purpose::Arap => b"arap",
+        Purpose::OutboundPap => b"opap",
+        Purpose::Global => b"global",
     }
 }
 
 /// What is told of a line.
-#[derive(Drop)]
 pub struct Remark {
     pub line: usize,
-    pub what: What,
-    // the word that it is about, of symbols alone
-    word: Bytes,
+    /// Whether something isn't said: the rest was only decided.
+    pub is_left_out: bool,
+    // of symbols alone
+    text: Vec<u8>,
 }
 
-/// How many bytes of a word are shown.
-const SHOWN: usize = 60;
+// By hand, so that a proof of an owner has one call at each exit, not a drop of each field.
+impl Drop for Remark {
+    fn drop(self) {
+        let Remark {
+            line: _,
+            is_left_out: _,
+            text: _,
+        } = self;
+    }
+}
 
-fn shown(alloc: Global, word: &[u8]) -> Result<Bytes, AllocError> {
-    let mut text = Bytes::new(alloc);
-    'bytes: for byte in word.iter().take(SHOWN) {
-        text.push(if is_symbol(*byte) { *byte } else { b'?' })?;
+impl Remark {
+    pub(crate) fn new(line: usize, is_left_out: bool, text: Vec<u8>) -> Remark {
+        Remark {
+            line,
+            is_left_out,
+            text,
+        }
     }
-    if word.len() > SHOWN {
-        text.extend_from_slice(b"..")?;
-    }
-    Ok(text)
 }
 
 impl fmt::Display for Remark {
     fn fmt<W: fmt::Write>(&self, f: &mut fmt::Formatter<W>) -> fmt::Result {
         let line = self.line;
-        let word = str::from_utf8(self.word.as_slice()).unwrap_or("");
-        write!(f, "line {line}: ")?;
-        match self.what {
-            What::NoEqual(setting) => {
-                let word = setting_word(setting);
-                let instead = instead_of(setting);
-                write!(f, "'{word}'{instead}: left out")
-            }
-            What::NotPermitted(why) => write!(f, "permit '{word}': {why}: left out"),
-            What::AllDenied(why) => {
-                write!(
-                    f,
-                    "deny '{word}': {why}: the command is denied from here on"
-                )
-            }
-            What::Method(_) | What::Secret(_) | What::OtherPassword(_) | What::IsLogin(_) => {
-                write_password(f, self.what)
-            }
-            what => {
-                let text = fixed_text(what);
-                write!(f, "'{word}'{text}")
-            }
-        }
+        let text = str::from_utf8(self.text.as_slice()).unwrap_or("");
+        write!(f, "line {line}: {text}")
     }
-}
-
-/// Adds what is told of a line.
-pub(crate) fn tell(
-    remarks: &mut Vec<Remark>,
-    alloc: Global,
-    line: usize,
-    what: What,
-    word: &[u8],
-) -> Result<(), AllocError> {
-    let word = shown(alloc, word)?;
-    remarks.push(Remark { line, what, word })?;
-    Ok(())
 }

@@ -1,12 +1,11 @@
 //! What users log in and enable with.
 
 use crate::chain::nearest_password;
-use crate::remark::{Remark, What, tell};
-use crate::text::add_line;
+use crate::draft::{Draft, add_line};
+use crate::remark::{What, purpose_word};
 use basics::is_text;
 use pol_names::{ClearSecret, Credential, Kind};
 use sha_crypt::Hash;
-use std::alloc::{AllocError, Global};
 use tac_plus_file::{Method, Password, Purpose, Subject};
 
 /// Which passwords a user logs in with: the first of these that there is.
@@ -25,26 +24,7 @@ fn is_said(password: &Password) -> bool {
     match password.method {
         Method::Cleartext => is_secret(text),
         Method::Des => Hash::read(text).is_some(),
-        Method::File | Method::Skey | Method::NoPassword | Method::Pam => false,
-    }
-}
-
-// What is told of a password beside the one that the subject logs in with.
-fn other_finding(password: &Password, login: Option<&Password>) -> Option<What> {
-    let purpose = password.purpose;
-    let Some(login) = login else {
-        return Some(What::OtherPassword(purpose));
-    };
-    if login.line == password.line && login.purpose == purpose {
-        return match purpose {
-            Purpose::Login | Purpose::Global => None,
-            _ => Some(What::IsLogin(purpose)),
-        };
-    }
-    if are_same(login, password) && purpose != Purpose::Arap && purpose != Purpose::OutboundPap {
-        None
-    } else {
-        Some(What::OtherPassword(purpose))
+        _ => false,
     }
 }
 
@@ -53,85 +33,78 @@ fn are_same(one: &Password, other: &Password) -> bool {
     one.method == other.method && one.text == other.text
 }
 
-// What is told of a secret to enable with beside the one that counts.
-fn second_finding(password: &Password, enable: Option<&Password>) -> Option<What> {
-    match enable {
-        Some(first) if !are_same(first, password) => Some(What::SecondEnable),
-        _ => None,
+// What is told of a password beside the one that the subject logs in with.
+fn other_finding(password: &Password, login: &Password) -> Option<What> {
+    if login.line == password.line && login.purpose == password.purpose {
+        return match password.purpose {
+            Purpose::Login | Purpose::Global => None,
+            _ => Some(What::IS_LOGIN),
+        };
+    }
+    match password.purpose {
+        Purpose::Arap | Purpose::OutboundPap => Some(What::OTHER_PASSWORD),
+        _ if are_same(login, password) => None,
+        _ => Some(What::OTHER_PASSWORD),
     }
 }
 
-// What is told of a password.
+// What is told of a password, beside the one that the subject logs in with, and the one that it
+// enables with.
 fn finding(
     password: &Password,
     login: Option<&Password>,
     enable: Option<&Password>,
 ) -> Option<What> {
-    let purpose = password.purpose;
     if !is_said(password) {
-        return Some(match password.method {
-            Method::Cleartext => What::Secret(purpose),
-            _ => What::Method(purpose),
-        });
+        return match password.method {
+            Method::Cleartext => Some(What::SECRET),
+            _ => Some(What::METHOD),
+        };
     }
-    match purpose {
-        Purpose::Enable => second_finding(password, enable),
-        _ => other_finding(password, login),
+    if password.purpose != Purpose::Enable {
+        return match login {
+            Some(login) => other_finding(password, login),
+            None => Some(What::OTHER_PASSWORD),
+        };
+    }
+    match enable {
+        Some(first) if !are_same(first, password) => Some(What::SECOND_ENABLE),
+        _ => None,
     }
 }
 
-/// Tells of each password of a subject that isn't said.
-pub(crate) fn tell_passwords(
-    alloc: Global,
-    chain: &[&Subject],
-    subject: &Subject,
-    remarks: &mut Vec<Remark>,
-) -> Result<(), AllocError> {
+// The line of a secret.
+fn write_secret(draft: &mut Draft, credential: Credential, password: &Password) {
+    if !is_said(password) {
+        return;
+    }
+    let text = password.text.as_slice();
+    if password.method == Method::Des {
+        draft.is_third = true;
+        draft.policy.add(credential.hash_keyword().as_bytes());
+    } else {
+        draft.policy.add(credential.keyword().as_bytes());
+    }
+    add_line(&mut draft.policy, &[text]);
+}
+
+/// Writes the secrets of a user, also those of its groups, and tells of each password of a subject
+/// that isn't said.
+pub(crate) fn write_secrets(draft: &mut Draft, chain: &[&Subject], subject: &Subject) {
     let login = nearest_password(chain, &LOGINS);
     let enable = nearest_password(chain, &ENABLES);
     'passwords: for password in &subject.passwords {
         if let Some(what) = finding(password, login, enable) {
-            tell(remarks, alloc, password.line, what, b"enable")?;
+            draft.tell(password.line, what, purpose_word(password.purpose));
         }
     }
-    Ok(())
-}
-
-// The line of a secret, and whether only version 3 has it.
-fn write_secret(
-    out: &mut Vec<u8>,
-    credential: Credential,
-    password: Option<&Password>,
-) -> Result<bool, AllocError> {
-    let Some(password) = password else {
-        return Ok(false);
-    };
-    if !is_said(password) {
-        return Ok(false);
+    if subject.kind == Kind::Group {
+        return;
     }
-    let is_hash = password.method == Method::Des;
-    if is_hash {
-        out.extend_from_slice(credential.hash_keyword().as_bytes())?;
-    } else {
-        out.extend_from_slice(credential.keyword().as_bytes())?;
+    if let Some(login) = login {
+        write_secret(draft, Credential::Login, login);
     }
-    add_line(out, &[password.text.as_slice()])?;
-    Ok(is_hash)
-}
-
-/// Writes the secrets of a user, also those of its groups, and answers whether only version 3 has
-/// them.
-pub(crate) fn write_secrets(
-    out: &mut Vec<u8>,
-    chain: &[&Subject],
-    kind: Kind,
-) -> Result<bool, AllocError> {
-    if kind == Kind::Group {
-        return Ok(false);
+    if let Some(enable) = enable {
+        write_secret(draft, Credential::Enable, enable);
     }
-    let login = nearest_password(chain, &LOGINS);
-    let enable = nearest_password(chain, &ENABLES);
-    let is_login_hash = write_secret(out, Credential::Login, login)?;
-    let is_enable_hash = write_secret(out, Credential::Enable, enable)?;
-    Ok(is_login_hash || is_enable_hash)
 }
