@@ -57,6 +57,16 @@ $ tacd import open-quote
 ! open-quote line 2: this quotation mark is never closed
 status 1
 
+# An end of a line within quotes, after a backslash, counts too.
+file quoted-end
+key = "a\
+b"
+user = bob { cmd = show { allow .* } }
+
+$ tacd import quoted-end
+! quoted-end line 3: 'permit' or 'deny' is missing here
+status 1
+
 file open-brace
 user = bob {
 |  cmd = show { permit .*}|
