@@ -23,7 +23,7 @@ use Rattle.tac_devices.specs.declared.device.Tls.{Tls}
 use Rattle.tac_net.specs.declared.callers.Callers.{Callers}
 use Rattle.tac_net.specs.declared.callers.Callers.TheVariants.{Any, Listed}
 use Rattle.tac_net.specs.declared.callers.Found.{Found}
-use Rattle.tac_net.specs.declared.callers.Found.TheVariants.{Unlisted, Keyed, Certified}
+use Rattle.tac_net.specs.declared.callers.Found.TheVariants.{Anyone, Keyed, Certified}
 use Rattle.tac_net.specs.declared.directory.Directory.{Directory}
 use Rattle.tac_net.specs.declared.peer.Way.{Way}
 use Rattle.tac_net.specs.declared.peer.Way.TheVariants.{Port, Proxy}
@@ -128,7 +128,7 @@ IsFoundAs device (Proxy name) (Certified other by) = other.now ≡ device
 IsFoundAs device way found = ⊥
 
 abbrev pub IsFoundAt : Callers → IpAddr → Way → Found → Type 0
-IsFoundAt (Any key) address Port (Unlisted other) = other.now ≡ key
+IsFoundAt (Any key) address Port (Anyone other) = other.now ≡ key
 IsFoundAt (Any key) address way found = ⊥
 IsFoundAt (Listed directory proxy) address way found =
     (devices : List Device) × WasListed directory devices
@@ -137,6 +137,6 @@ IsFoundAt (Listed directory proxy) address way found =
 
 -- who is found so, and comes this way, calls by this door, and lines name it so
 abbrev pub IsCallerOf : Found → Way → Door → Option Named → Type 0
-IsCallerOf (Unlisted key) way door who = (door ≡ Padded key.now) × (who ≡ None)
+IsCallerOf (Anyone key) way door who = (door ≡ Padded key.now) × (who ≡ None)
 IsCallerOf (Keyed device keys) way door who = IsDoorOfKeys device.now keys.now door who
 IsCallerOf (Certified device by) way door who = IsDoorInside device.now way door who

@@ -46,7 +46,7 @@ impl Drop for Callers {
 #[derive(Clone, Copy)]
 pub(crate) enum Found<'a> {
     /// Some device, which has this key as all have.
-    Unlisted(&'a KeyDoor),
+    Anyone(&'a KeyDoor),
     /// This one, by its keys.
     Keyed(&'a Device, &'a Keys),
     /// This one, inside TLS.
@@ -151,7 +151,7 @@ impl<'a> Found<'a> {
     // The device, where it is listed.
     fn device(self) -> Option<&'a Device> {
         match self {
-            Found::Unlisted(_) => None,
+            Found::Anyone(_) => None,
             Found::Keyed(device, _) | Found::Certified(device, _) => Some(device),
         }
     }
@@ -171,7 +171,7 @@ impl<'a> Found<'a> {
     /// out.
     pub(crate) fn shown_by(self, alloc: Global, bytes: &[u8]) -> Result<Option<Shown>, AllocError> {
         match self {
-            Found::Unlisted(_) | Found::Certified(_, _) => Ok(Some(Shown::Present)),
+            Found::Anyone(_) | Found::Certified(_, _) => Ok(Some(Shown::Present)),
             Found::Keyed(_, keys) => shown_by(alloc, keys, bytes),
         }
     }
@@ -181,7 +181,7 @@ impl<'a> Found<'a> {
         ensures { callers.IsCallerOf self.entry way.now result.door.now result.named }
     {
         match self {
-            Found::Unlisted(key) => Caller {
+            Found::Anyone(key) => Caller {
                 door: key.door(),
                 named: None,
             },
@@ -249,7 +249,7 @@ impl Callers {
     {
         match self {
             Callers::Any(key) => match way {
-                Way::Port => Ok(Found::Unlisted(key)),
+                Way::Port => Ok(Found::Anyone(key)),
                 Way::Proxy(_) => Err(TurnedDown {
                     why: WhyTurnedAway::NoTls,
                     named: None,
