@@ -3,6 +3,7 @@ too many, and replies that the log doesn't take. Each case is a function, as in 
 
 import contextlib
 import errno
+import socket
 import time
 
 from cases import Case, Check, Outcome, Play
@@ -86,10 +87,13 @@ def cases(name):
 
 
 def visits(server):
-    """All packets of a visit on one connection, each once the one before is answered."""
+    """All packets of a visit on one connection, each once the one before is answered. Once the device
+    says that nothing more comes nothing is sent, and the connection is closed."""
     with connect(server) as device:
         for sent, wanted in VISIT:
             require(is_answered(device, sent, wanted), f"{sent} isn't answered so")
+        device.shutdown(socket.SHUT_WR)
+        require(is_closed(device, SOON), "the connection is kept")
 
 
 def silent_devices_hold_up_nobody(program):
