@@ -76,6 +76,7 @@ def cases(name):
     for play in (
         silent_devices_hold_up_nobody,
         silent_devices_are_given_up,
+        devices_that_are_gone_count_no_more,
         slow_logins_hold_up_nobody,
         many_packets_at_once,
         packets_that_are_too_much_leave_nothing,
@@ -122,6 +123,27 @@ def silent_devices_are_given_up(program):
             require(is_closed(device, SOON), "a silent one is kept")
         require(is_permitted(server), "bob isn't permitted after that")
         server.quits()
+
+
+def devices_that_are_gone_count_no_more(program):
+    """Neither silent ones that are given up, nor those that are answered, leave less room for others."""
+    sent, wanted = packet(ASK, flag=CLOSING), packet(PERMITTED, flag=CLOSING)
+    for limit in (("--per-address", "2"), ("--connections-at-once", "2", "--per-address", "0")):
+        options = ("--workers", "2", "--idle", "2", *limit)
+        with Server(program, *options) as server, contextlib.ExitStack() as stack:
+            devices = [stack.enter_context(connect(server)) for _ in range(2)]
+            with connect(server) as one_more:
+                with contextlib.suppress(ConnectionError):
+                    one_more.sendall(sent)
+                require(is_closed(one_more, SOON), f"{limit}: one more is served")
+            for device in devices:
+                require(is_closed(device, SOON), f"{limit}: a silent one is kept")
+            for _ in range(5):
+                with connect(server) as device:
+                    # Up to the end of the connection, so one more byte is awaited.
+                    came = answer(device, sent, len(wanted) + 1)
+                    require(came == wanted, f"{limit}: {came} is sent")
+            server.quits()
 
 
 def slow_logins_hold_up_nobody(program):
