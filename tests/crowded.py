@@ -37,10 +37,11 @@ OTHER_HASH = (
     "login-hash ann $6$rounds=100000$tlas$epo6ZHcV0Eo.J74AIkbACWZwbjOsNHbWK5kLCn9rJ5i9D/so0GL9xcTx"
     "embAecEGTjUClyB9A.w9nDpPxgJQX."
 )
-# Ann logs in with `secret` and with `other`, which have as many letters but one less.
+# Ann logs in with `secret` and with `other`, which has one letter less, and without a password.
 LOGINS = {
     "secret": "c1010104.00000001.00000011.0101020103000006'annsecret'",
     "other": "c1010104.00000001.00000010.0101020103000005'annother'",
+    "": "c1010104.00000001.0000000b.0101020103000000'ann'",
 }
 LET_IN = "c1010204.00000001.00000006.010000000000"
 FAILED = "c1010204.00000001.0000001b.020000150000'Authentication failed'"
@@ -147,8 +148,8 @@ def devices_that_are_gone_count_no_more(program):
 
 
 def slow_logins_hold_up_nobody(program):
-    """While ann logs in again and again, the one worker serves a visit, also once her hash is another
-    one. All her logins are answered rightly."""
+    """While ann logs in again and again, the one worker serves a visit, and refuses a login without a
+    password, also once her hash is another one. All her logins are answered rightly."""
     with Server(program, "--workers", "1", "--per-address", "0", policy=POLICY) as server:
         connect(server).close()
         listening = server.process.stdout.readline().decode()
@@ -160,6 +161,8 @@ def slow_logins_hold_up_nobody(program):
                 for device, reply in zip(devices, wanted):
                     device.sendall(packet(LOGINS[password if reply == LET_IN else other]))
                 visits(server)
+                with connect(server) as device:
+                    require(is_answered(device, LOGINS[""], FAILED), "ann needs no password")
                 require(not any(is_told(device) for device in devices[-4:]), "the visit had to wait")
                 for device, reply in zip(devices, map(packet, wanted)):
                     came = answer(device, b"", len(reply))
