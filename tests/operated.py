@@ -8,6 +8,7 @@ import json
 import os
 import pathlib
 import select
+import signal
 import socket
 import time
 
@@ -39,6 +40,7 @@ def cases(name):
         other_devices,
         no_memory_for_devices,
         an_input_that_fails,
+        an_output_that_fails,
         logged_before_it_is_answered,
         answered_where_the_log_fails,
         operators_who_share_a_console,
@@ -549,11 +551,32 @@ def no_memory_for_devices(program):
 
 
 def an_input_that_fails(program):
-    """The server says so and ends at once."""
+    """The server says so and ends at once, also after a line, which is answered."""
     unread = "tacd: the console could not be read\n"
     folder = lambda: os.dup2(os.open("/", os.O_RDONLY), 0)  # as a read of it fails
     with Server(program, "--workers", "3", before=folder) as server:
         server.ends(complained=unread, status=4)
+    ours, theirs = socket.socketpair()
+    with ours, theirs:
+        # A read fails after the line, as it doesn't wait.
+        theirs.setblocking(False)
+        ours.sendall(b"shadow\n")
+        one_line = lambda: os.dup2(theirs.fileno(), 0)
+        with Server(program, "--workers", "3", before=one_line) as server:
+            server.ends(answers="none\n", complained=unread, status=4)
+
+
+def an_output_that_fails(program):
+    """So it does where an answer can't be written, though its workers have a silent device and wait for
+    others."""
+    unwritten = "tacd: the output could not be written\n"
+    unsignalled = lambda: signal.signal(signal.SIGPIPE, signal.SIG_IGN)  # so that a write fails
+    with Server(program, "--workers", "3", before=unsignalled) as server, connect(server):
+        starts(server)
+        server.process.stdout.close()
+        began = time.monotonic()
+        server.ends("shadow\n", complained=unwritten, status=4, is_listening=False)
+        require(time.monotonic() - began < SOON, "it took too long")
 
 
 def logged_before_it_is_answered(program):
