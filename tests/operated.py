@@ -14,7 +14,10 @@ import time
 
 from cases import Case, Check, Outcome, Play
 from served import (
+    ASK,
+    DENIED,
     FDATASYNC,
+    KEPT,
     LONGEST_WAIT,
     OPENAT,
     POLICY,
@@ -23,6 +26,7 @@ from served import (
     Supervised,
     account,
     connect,
+    is_answered,
     require,
     types,
 )
@@ -799,7 +803,8 @@ def resident(server):
 
 
 COUNTED = ("subjects", "rules", "records", "edits_total", "reloads_total")
-# What is typed, or the records of a device, or FILE's lines, and what is counted then.
+# What is typed, or how many records a device sends, or none where it asks for a line, and what is
+# counted then.
 DONE = (
     ("why bob a", "2 3 0 0 0"),
     ("add user eve in ops", "3 3 0 1 0"),
@@ -819,9 +824,11 @@ DONE = (
     ("commit", "4 3 0 7 0"),
     (1, "4 3 1 7 0"),
     (1, "4 3 2 7 0"),
-    ("reload", "2 3 2 7 1"),
-    ("reload", "2 3 2 7 2"),
-    ("policy", "2 3 2 7 2"),
+    (None, "4 3 2 7 0"),
+    ("drop user bob 1", "4 2 2 8 0"),
+    ("reload", "2 3 2 8 1"),
+    ("reload", "2 3 2 8 2"),
+    ("policy", "2 3 2 8 2"),
 )
 
 
@@ -837,7 +844,9 @@ def what_is_counted(program):
     with attended(program, policy=policy) as server, connect(server) as device:
         with Operator(server) as operator:
             for done, wanted in DONE:
-                if isinstance(done, int):
+                if done is None:
+                    require(is_answered(device, ASK, DENIED, flag=KEPT), "bob isn't denied")
+                elif isinstance(done, int):
                     account(device, 10, "bob", "task_id=7", times=done)
                 else:
                     operator.ask(done)
