@@ -21,12 +21,16 @@ from served import (
     LONGEST_WAIT,
     OPENAT,
     POLICY,
+    RECORD,
     SOON,
+    STORED,
     Server,
     Supervised,
     account,
+    answer,
     connect,
     is_answered,
+    packet,
     require,
     types,
 )
@@ -53,6 +57,7 @@ def cases(name):
         how_a_server_is,
         what_is_counted,
         records_are_counted,
+        no_room_for_records,
         edits_are_kept,
         a_store_that_is_full,
     ):
@@ -871,6 +876,33 @@ def records_are_counted(program):
                     kept = operator.ask("records").count("\n") + 1
                     require(kept == wanted, f"{options}: {kept} are kept, not {wanted}")
                 stops(server, operator)
+
+
+NEARLY_FULL = (
+    "tacd: 900000 of at most 1000000 records are stored; once all are, accounting is answered 'records "
+    "full'. --keep-records N keeps the latest instead\n"
+)
+FULL = (
+    "tacd: all 1000000 records are stored: accounting is answered 'records full' until a restart. "
+    "--keep-records N keeps the latest instead\n"
+)
+NOT_STORED = "c0030204.00000001.00000011.000c000002'records full'"
+
+
+def no_room_for_records(program):
+    """After a million none is stored, and none is counted. Of nine tenths, and of all, standard error is
+    told once."""
+    sent, stored = packet(RECORD) * 1000, packet(STORED) * 1000
+    with attended(program) as server, connect(server) as device, Operator(server) as operator:
+        for _ in range(1000):
+            require(answer(device, sent, len(stored)) == stored, "a record isn't stored")
+        for _ in range(2):
+            require(is_answered(device, RECORD, NOT_STORED), "one more is answered otherwise")
+        came = operator.numbers()["tacd_records"]
+        require(came == "1000000", f"{came} are counted")
+        counted = "starts 0 stops 0 watchdogs 0 updates 1000000 open 0 elapsed 0 drift 0"
+        told(operator, ("tally user bob", f"tally user bob {counted}"))
+        stops(server, operator, NEARLY_FULL + FULL)
 
 
 class Keeping:
