@@ -922,10 +922,21 @@ class Keeping:
         self.server.__exit__()
 
     def asks(self, line, wanted, lines):
-        """The line is answered so, and then the file has these lines, or isn't there."""
+        """The line is answered so, and then the file has these lines, or isn't there. If it had them
+        before it isn't written again."""
+        was = self.found()
         told(self.operator, (line, wanted))
-        came = "; ".join(self.kept.read_text().splitlines()) if self.kept.is_file() else None
-        require(came == lines, f"after {line} the file has {came!r}, not {lines!r}")
+        came = self.found()
+        require(came[0] == lines, f"after {line} the file has {came[0]!r}, not {lines!r}")
+        require(came == was or lines != was[0], f"after {line} the file is written again")
+
+    def found(self):
+        """The lines of the file, which file it is, and when it was written, if it is there."""
+        if not self.kept.is_file():
+            return None, None, None
+        found = self.kept.stat()
+        lines = "; ".join(self.kept.read_text().splitlines())
+        return lines, found.st_ino, found.st_mtime_ns
 
     def tells(self, **wanted):
         numbers = self.operator.numbers()
