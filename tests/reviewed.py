@@ -1,13 +1,15 @@
 """Reviews that go by what the program itself printed before: the edits that `tacd diff --edits` prints
 make the new policy of the old one, and `tacd diff` tells of a policy and of what an edit makes of it
-what the console answers to the edit. Each case is a function that raises Wrong where something goes
-otherwise."""
+what the console answers to the edit, and of two policies what it answers to `reload`. Each case is a
+function that raises Wrong where something goes otherwise."""
 
 import pathlib
 import subprocess
 import tempfile
 
 from cases import Case, Check, Outcome, Play, Wrong
+from operated import starts
+from served import Server, types
 
 LONGEST_RUN = 60
 BETWEEN = "between two of them the policy is neither OLD nor NEW"
@@ -95,6 +97,7 @@ def cases(name):
     """Each case of this file, with the name of the function that plays it."""
     for play in (
         edits_are_told_as_the_console_tells_them,
+        reloads_are_told_as_the_console_tells_them,
         pairs_by_chance,
         deep_chains,
         a_full_policy,
@@ -183,6 +186,26 @@ def edits_are_told_as_the_console_tells_them(program):
         old = new
     if taken <= 100 or changing <= 50:
         raise Wrong(f"{taken} edits are taken, and {changing} change something")
+
+
+def reloads_are_told_as_the_console_tells_them(program):
+    """A server loads one policy after another, and prints each. Nearly all change something."""
+    policies = [
+        replayed(program, POLICY, list(edits_by_chance(seed, 20)))[-1][1] for seed in range(1, 60)
+    ]
+    changing = 0
+    with Server(program, policy=policies[0]) as server:
+        starts(server)
+        for old, new in zip(policies, policies[1:]):
+            found = reviewed(program, ["diff"], old, new)
+            told = [] if found == "same\n" else found.splitlines()
+            pathlib.Path(server.folder.name, "policy").write_text(new, "utf-8")
+            types(server, "reload", "ok", *told)
+            types(server, "policy", *new.splitlines())
+            changing += len(told) > 0
+        server.ends("quit\n", is_listening=False)
+    if changing <= 40:
+        raise Wrong(f"{changing} policies change something")
 
 
 def loads(program, old, new):
