@@ -340,11 +340,12 @@ def so_many_and_no_more(program):
 
 
 def a_login_is_given_up(program):
-    """One that waits for its name has a time of its own."""
-    with Server(program, "--idle", "0", "--login-idle", "1") as server:
+    """One that waits for its name has a time of its own. The one worker then serves another."""
+    with Server(program, "--workers", "1", "--idle", "0", "--login-idle", "1") as server:
         with connect(server) as device:
             require(is_answered(device, LOGIN, NAME_WANTED), "there is no prompt")
             require(is_closed(device, SOON), "it is kept")
+        require(is_permitted(server), "bob isn't permitted")
         server.quits()
 
 
