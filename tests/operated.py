@@ -758,11 +758,13 @@ def a_busy_console(program):
         os.mkfifo(policy, 0o600)
         with Operator(server) as first, Operator(server) as second:
             first.type("reload")
-            require(second.numbers()["tacd_operators"] == "2", "there aren't two")
-            require("rotate" in second.ask("help"), "there is no help")
-            second.type("why bob ping")
-            require(not select.select([first.stream, second.stream], [], [], 0.2)[0], "it isn't busy")
-            policy.write_text("group ops\npermit ping\nuser bob in ops\n")
+            with policy.open("w") as file:  # as soon as the server reads it
+                require(second.numbers()["tacd_operators"] == "2", "there aren't two")
+                require("rotate" in second.ask("help"), "there is no help")
+                second.type("why bob ping")
+                waits = not select.select([first.stream, second.stream], [], [], 0.2)[0]
+                require(waits, "it isn't busy")
+                file.write("group ops\npermit ping\nuser bob in ops\n")
             wanted = "ok\nuser bob now permits: ping\nuser bob now denies: show "
             require((came := first.heard()) == wanted, f"`reload` is answered by {came!r}")
             require(second.heard() == "permitted by group ops rule 1", "the other isn't answered")
