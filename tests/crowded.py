@@ -193,6 +193,17 @@ def many_packets_at_once(program):
         server.quits()
 
 
+def waits_alone(server, sent):
+    """Whether the server waits for more on a connection that sent this, and answers another."""
+    with connect(server) as device:
+        with contextlib.suppress(ConnectionError):
+            device.sendall(sent)
+        if is_closed(device, 0.5):
+            return False
+        require(is_permitted(server), "bob isn't permitted")
+        return True
+
+
 def packets_that_are_too_much_leave_nothing(program):
     """Once they are gone, others have their memory again."""
     most_of_it = bytes.fromhex("c00201040000000100020003") + bytes(125_000)
@@ -204,10 +215,10 @@ def packets_that_are_too_much_leave_nothing(program):
                     with contextlib.suppress(ConnectionError):
                         device.sendall(most_of_it)
                 require(is_one_closed(devices, SOON), "none is closed")
-        with connect(server) as device:
-            device.sendall(most_of_it)
-            require(not is_closed(device, 0.5), "one alone is closed")
-            require(is_permitted(server), "bob isn't permitted")
+        # the server may see only now that the last ones are gone
+        until = time.monotonic() + SOON
+        while not waits_alone(server, most_of_it):
+            require(time.monotonic() < until, "one alone is closed")
         server.quits()
 
 
