@@ -5,7 +5,9 @@ of tac_plus F4.0.4 says. It knows nothing of patterns, policies or this program.
 drawn (drawing.py): users and groups, defaults, shells, commands with expressions of all kinds. Each
 is imported, and what was decided of its lines is a table for `tacd test`, which has to find each so.
 Every policy has to pass `tacd check`. Where the import tells that a rule was left out, the lines of
-that command aren't compared.
+that command aren't compared. What it tells of services without `default attribute = permit`, of
+hashes that aren't taken, and of expressions that older builds of tac_plus read otherwise is compared
+line by line (remarks.py); both kinds of expressions are read by expressions.py.
 
     python3 bench/import [--seed N] [--count N] [--lines N] [PROGRAM]
     python3 bench/import garbage [PROGRAM]
@@ -32,12 +34,15 @@ import sys
 import tempfile
 
 import garbage
+import remarks
 from drawing import configuration, lines
 from meaning import Meaning
 
 BUILT = pathlib.Path(__file__).resolve().parents[2] / "crates/tacd/out/tacd"
 # What is told of a rule that was left out begins so, after its line.
 UNSAID = ("permit '", "deny '")
+# What is told of something that was left out ends so.
+LEFT_OUT = ("left out", "denied from here on")
 
 
 def main():
@@ -68,9 +73,8 @@ def read_arguments():
     return arguments
 
 
-def table(text, asked):
+def table(meaning, asked):
     """The cases that a configuration makes of users and lines."""
-    meaning = Meaning(text)
     verdicts = {True: "permit", False: "deny"}
     return [f"{verdicts[meaning.permits(user, line)]} {user} {line}" for user, line in asked]
 
@@ -83,7 +87,7 @@ def compare_all(arguments):
             name = f"{arguments.seed}-{number}"
             text = configuration(name, f"c{number}-")
             asked = lines(name, text, arguments.lines)
-            found, count = compare(program, pathlib.Path(folder), text, table(text, asked))
+            found, count = compare(program, pathlib.Path(folder), text, asked)
             compared += count
             skipped += len(asked) - count
             if found:
@@ -94,9 +98,10 @@ def compare_all(arguments):
     return 1 if differ else 0
 
 
-def compare(program, folder, text, cases):
+def compare(program, folder, text, asked):
     """What differs, if anything, and how many cases were compared."""
-    source, policy, asked = (folder / it for it in ("tac_plus.conf", "policy", "cases"))
+    meaning = Meaning(text)
+    source, policy, cases = (folder / it for it in ("tac_plus.conf", "policy", "cases"))
     source.write_text(text)
     told = run(program, "import", source)
     if told.returncode not in (0, 5):
@@ -105,21 +110,23 @@ def compare(program, folder, text, cases):
     checked = run(program, "check", policy)
     if checked.returncode != 0:
         return checked.stdout, 0
-    kept = without_unsaid(text, told.stderr, cases)
-    asked.write_text("\n".join(kept) + "\n")
-    tested = run(program, "test", policy, asked)
-    return ("" if tested.returncode == 0 else tested.stdout + told.stdout), len(kept)
+    found = remarks.differing(meaning, told.stderr)
+    left_out = any(what.endswith(LEFT_OUT) for _, what in remarks.parsed(told.stderr))
+    if told.returncode != (5 if left_out else 0):
+        found += f"the status is {told.returncode}\n"
+    kept = without_unsaid(text, told.stderr, table(meaning, asked))
+    cases.write_text("\n".join(kept) + "\n")
+    tested = run(program, "test", policy, cases)
+    return found + ("" if tested.returncode == 0 else tested.stdout + told.stdout), len(kept)
 
 
 def without_unsaid(text, told, cases):
     """The cases about commands of which every rule was said."""
     numbered = text.split("\n")
     gone = set()
-    for line in told.splitlines():
-        _, _, rest = line.partition(" line ")
-        number, _, what = rest.partition(": ")
-        if what.startswith(UNSAID):
-            gone.add(command_at(numbered, int(number)))
+    for number, what in remarks.parsed(told):
+        if what.startswith(UNSAID) and not what.endswith(remarks.OLDER):
+            gone.add(command_at(numbered, number))
     return [case for case in cases if (case.split(" ") + [""])[2] not in gone]
 
 
@@ -144,7 +151,7 @@ def write_files(arguments):
             name = f"{arguments.seed}-{number}"
             text = configuration(name, f"c{number}-")
             texts.append(text)
-            cases += table(text, lines(name, text, arguments.lines))
+            cases += table(Meaning(text), lines(name, text, arguments.lines))
         (arguments.path / f"{first}.conf").write_text("".join(texts))
         (arguments.path / f"{first}.cases").write_text("\n".join(cases) + "\n")
     return 0

@@ -48,6 +48,16 @@ class Draw:
     def expression(self, depth=0):
         return "|".join(self.branch(depth) for _ in range(self.of([1, 1, 1, 1, 2, 3])))
 
+    def odd(self):
+        """An expression of which one part is read otherwise by older builds, or looks like that."""
+        odd = self.of([
+            "{", "a{", "}", r"\{", r"\{2}", "[{]", "[^{]", "[]{]", "[a-c-]", "[a-c-e]", "[--a]",
+            "[+--e]", "[[:alpha:]]", "[^[:digit:]x]", "[[=a=]]", "[[.-.]]", "[[.].]]", "[:a]", "[a:.]",
+            r"\[:a", r"\w", r"\W", r"\s", r"\S+", r"\b", r"\B", r"\<", r"\>", r"\`", r"\'", r"[\w]",
+            r"\\w", r"(a|r)\1", r"\d", r"\.", "a**", "a{2}?", "(a*)*", "(a+){2}", "^{", "({2})",
+        ])
+        return self.of(["", self.part(1)]) + odd + self.of(["", self.part(1)])
+
     def quoted(self, text):
         bare = text and not set(text) & set(' ="\t') and text[0] not in '{}=#"'
         if bare and self.chance(0.6):
@@ -57,11 +67,31 @@ class Draw:
     def rule(self):
         verdict = self.of(["permit", "deny"])
         text = ".*" if self.chance(0.2) else self.expression()
+        if self.chance(0.06):
+            text = self.odd()
         return f"    {verdict} {self.quoted(text)}\n"
 
     def command(self, name):
         rules = "".join(self.rule() for _ in range(self.of([0, 1, 1, 2, 2, 3, 4, 6])))
         return f"  cmd = {name} {{\n{rules}  }}\n"
+
+    def hash(self):
+        """A hash that begins with `$6$`, which may be none that is taken."""
+        of = self.of
+        rounds = of(["", "", "5000", "1000", "999", "999999", "1000000", "9999999999", "05000"])
+        digest = "".join(of("./0189AZaz") for _ in range(of([86, 86, 86, 85, 87, 0])))
+        salt = of(["s", "saltsalt", "./saltsaltsalt09", "", "17saltsaltsaltsal", "sa-lt"])
+        return "$6$" + (f"rounds={rounds}$" if rounds else "") + f"{salt}${digest}"
+
+    def login(self):
+        return f"des {self.quoted(self.hash())}" if self.chance(0.3) else "cleartext secret"
+
+    def service(self):
+        name = self.of(["exec", "exec", "ppp protocol = ip", "ppp protocol = lcp", "junos-exec"])
+        inner = "    priv-lvl = 15\n" if name == "exec" else self.of(["", "    addr = 192.0.2.1\n"])
+        if self.chance(0.5):
+            inner = "    default attribute = permit\n" + inner
+        return f"  service = {name} {{\n{inner}  }}\n"
 
     def subject(self, kind, name, parents, prefix):
         lines = []
@@ -70,9 +100,8 @@ class Draw:
         if self.chance(0.25):
             lines.append(f"  default service = {self.of(['permit', 'permit', 'deny'])}\n")
         if kind == "user":
-            lines.append("  login = cleartext secret # a comment\n")
-        if self.chance(0.4):
-            lines.append("  service = exec {\n    priv-lvl = 15\n  }\n")
+            lines.append(f"  login = {self.login()} # a comment\n")
+        lines += [self.service() for _ in range(self.of([0, 0, 1, 1, 2, 4]))]
         chosen = [self.of(COMMANDS) for _ in range(self.of([0, 1, 1, 2, 3]))]
         lines += [self.command(command) for command in chosen]
         self.random.shuffle(lines)

@@ -6,21 +6,48 @@ arguments, joined by blanks, one after another; the first that is found decides,
 the command is denied. A command that nobody has a block about is decided by the nearest `default
 service`, which is deny where nobody has one. A shell is permitted where one of them has `service =
 exec`, and else by the same default.
+
+A service refuses mandatory arguments that it doesn't list, unless it has `default attribute =
+permit`. The first block of a subject about a service counts.
 """
+
+import re
+
+from expressions import Expression
+
+HASH = re.compile(r"\$6\$(rounds=([^$]*)\$)?([^$]*)\$(.*)")
+SYMBOLS = re.compile(r"[./0-9A-Za-z]+")
+
+
+def hash_fault(text):
+    """The words by which it is told why a hash that begins with `$6$` isn't taken; none where it is."""
+    rounds, number, salt, digest = HASH.fullmatch(text).groups()
+    if rounds and not re.fullmatch("[1-9][0-9]*", number):
+        return "fewest digits"
+    if rounds and int(number) > 999_999:
+        return "more rounds"
+    if rounds and int(number) < 1_000:
+        return "fewer rounds"
+    if not salt:
+        return "empty salt"
+    if len(salt) > 16 or not SYMBOLS.fullmatch(salt):
+        return "1 to 16"
+    return None if len(digest) == 86 and SYMBOLS.fullmatch(digest) else "86"
 
 
 def tokens(text):
-    """Words, quoted words and signs, as pairs of a kind and a text."""
+    """Words, quoted words and signs, each as a kind, a text and its line."""
     at = 0
     while at < len(text):
         sign = text[at]
+        line = text.count("\n", 0, at) + 1
         if sign in " \t\n":
             at += 1
         elif sign == "#":
             while at < len(text) and text[at] != "\n":
                 at += 1
         elif sign in "{}=":
-            yield sign, sign
+            yield sign, sign, line
             at += 1
         elif sign == '"':
             word = ""
@@ -34,12 +61,12 @@ def tokens(text):
                 word += text[at]
                 at += 1
             at += 1
-            yield "word", word
+            yield "word", word, line
         else:
             end = at
             while end < len(text) and text[end] not in " \t\n=":
                 end += 1
-            yield "word", text[at:end]
+            yield "word", text[at:end], line
             at = end
 
 
@@ -48,7 +75,12 @@ class Subject:
         self.member = None
         self.default = None
         self.has_shell = False
+        # of each command its rules: whether it permits, its expression, its line
         self.commands = {}
+        # of each service its line, and whether it has `default attribute = permit`
+        self.services = {}
+        # the lines of hashes that begin with `$6$`, and what is wrong with them
+        self.hashes = {}
 
 
 class Meaning:
@@ -64,6 +96,9 @@ class Meaning:
     def take(self):
         self.at += 1
         return self.rest[self.at - 1][1]
+
+    def line(self):
+        return self.rest[self.at - 1][2]
 
     def expect(self, *words):
         for word in words:
@@ -94,13 +129,9 @@ class Meaning:
                 self.expect("service", "=")
                 subject.default = self.take()
             elif word == "login":
-                self.expect("=", "cleartext")
-                self.take()
+                self.login(subject)
             elif word == "service":
-                subject.has_shell |= self.value() == "exec"
-                self.expect("{")
-                while self.take() != "}":
-                    pass
+                self.service(subject)
             elif word == "cmd":
                 name = self.value()
                 self.expect("{")
@@ -110,11 +141,48 @@ class Meaning:
                 raise ValueError(f"{word} isn't known")
         return subject
 
+    def login(self, subject):
+        line, method, text = self.line(), self.value(), self.take()
+        if method == "des":
+            fault = hash_fault(text)
+            if fault:
+                subject.hashes[line] = fault
+
+    def service(self, subject):
+        line, name, protocol = self.line(), self.value(), None
+        if (word := self.take()) == "protocol":
+            protocol, word = self.value(), self.take()
+        words = []
+        while (word := self.take()) != "}":
+            words.append(word)
+        subject.has_shell |= name == "exec"
+        is_open = words[:4] == ["default", "attribute", "=", "permit"]
+        key = name if name == "exec" else (name, protocol)
+        subject.services.setdefault(key, (line, is_open))
+
     def rules(self):
         rules = []
         while (verdict := self.take()) != "}":
-            rules.append((verdict == "permit", Expression(self.take())))
+            line = self.line()
+            rules.append((verdict == "permit", Expression(self.take()), line))
         return rules
+
+    def subjects(self):
+        return [*self.users.values(), *self.groups.values()]
+
+    def closed_services(self):
+        """The lines of services that refuse what they don't list."""
+        return {
+            line for subject in self.subjects()
+            for line, is_open in subject.services.values() if not is_open
+        }
+
+    def hash_faults(self):
+        return {line: why for subject in self.subjects() for line, why in subject.hashes.items()}
+
+    def blocks(self):
+        """The rules of each block that decides."""
+        return [rules for subject in self.subjects() for rules in subject.commands.values()]
 
     def chain(self, user):
         subject = self.users[user]
@@ -130,110 +198,8 @@ class Meaning:
         command, _, arguments = line.partition(" ")
         for subject in chain:
             if line and command in subject.commands:
-                found = (v for v, wanted in subject.commands[command] if wanted.search(arguments))
+                rules = subject.commands[command]
+                found = (it for it, wanted, _ in rules if wanted.search(arguments))
                 return next(found, False)
         default = next((it.default for it in chain if it.default), "deny")
         return default == "permit"
-
-
-class Expression:
-    """An expression of POSIX (extended), which is searched for in a text by sets of places, so that
-    no expression takes long."""
-
-    def __init__(self, text):
-        self.text, self.at = text, 0
-        self.node = self.alternatives()
-        if self.at != len(text):
-            raise ValueError(f"{text} has a parenthesis too many")
-
-    def peek(self):
-        return self.text[self.at:self.at + 1]
-
-    def take(self):
-        self.at += 1
-        return self.text[self.at - 1]
-
-    def alternatives(self):
-        branches = [self.branch()]
-        while self.peek() == "|":
-            self.take()
-            branches.append(self.branch())
-        return ("one of", branches)
-
-    def branch(self):
-        parts = []
-        while self.peek() and self.peek() not in "|)":
-            part = self.atom()
-            while self.peek() and self.peek() in "*+?{":
-                part = ("repeated", part, *self.count())
-            parts.append(part)
-        return ("one after another", parts)
-
-    def atom(self):
-        sign = self.take()
-        if sign == "(":
-            inner = self.alternatives()
-            self.take()
-            return inner
-        if sign == "[":
-            return self.members()
-        if sign in "^$":
-            return ("begin" if sign == "^" else "end",)
-        if sign == ".":
-            return ("symbol", lambda it: True)
-        literal = self.take() if sign == "\\" else sign
-        return ("symbol", lambda it: it == literal)
-
-    def members(self):
-        """A class, in which a backslash is itself, and a bracket that stands first."""
-        is_negated = self.peek() == "^"
-        if is_negated:
-            self.take()
-        ranges = []
-        while not ranges or self.peek() != "]":
-            first = last = self.take()
-            if self.peek() == "-" and self.text[self.at + 1] != "]":
-                self.take()
-                last = self.take()
-            ranges.append((first, last))
-        self.take()
-        return ("symbol", lambda it: any(a <= it <= b for a, b in ranges) != is_negated)
-
-    def count(self):
-        sign = self.take()
-        if sign != "{":
-            return {"*": (0, None), "+": (1, None), "?": (0, 1)}[sign]
-        low, comma, high = self.text[self.at:self.text.index("}", self.at)].partition(",")
-        self.at = self.text.index("}", self.at) + 1
-        if not comma:
-            return int(low), int(low)
-        return int(low), int(high) if high else None
-
-    def search(self, text):
-        return bool(self.ends(self.node, text, set(range(len(text) + 1))))
-
-    def ends(self, node, text, starts):
-        """Where a node may end that begins at one of these places."""
-        kind, *rest = node
-        if kind == "symbol":
-            return {at + 1 for at in starts if at < len(text) and rest[0](text[at])}
-        if kind == "begin":
-            return starts & {0}
-        if kind == "end":
-            return starts & {len(text)}
-        if kind == "one of":
-            return set().union(*(self.ends(it, text, starts) for it in rest[0]))
-        if kind == "one after another":
-            for part in rest[0]:
-                starts = self.ends(part, text, starts)
-            return starts
-        return self.repeated(text, starts, *rest)
-
-    def repeated(self, text, starts, part, low, high):
-        for _ in range(low):
-            starts = self.ends(part, text, starts)
-        found = new = starts
-        for _ in range(len(text) + 1 if high is None else high - low):
-            new = self.ends(part, text, new) - found
-            found = found | new
-        return found

@@ -48,6 +48,38 @@ $ tacd import no-setting
 ! no-setting line 2: tac_plus F4.0.4 has no such setting here
 status 1
 
+# A word ends before an '=', also a hash or a password.
+file cut-hash
+user = bob {
+|  login = des $6$rounds=1000000$saltsalt$temoAzB1LMUGfs39YsEHhlSSY8ud5tjHcrE1ZINzi8TsesBqqjufdtA7fVhnojTHlBhKZVF0Q9wxWAcE707Cb0|
+}
+
+$ tacd import cut-hash
+! cut-hash line 2: an '=' ends a word: put this hash or password into quotation marks
+status 1
+
+file cut-password
+user = bob {
+|  login = cleartext x|
+|  enable = cleartext blue=lake|
+}
+
+$ tacd import cut-password
+! cut-password line 3: an '=' ends a word: put this hash or password into quotation marks
+status 1
+
+file two-defaults
+user = bob {
+|  service = exec {|
+|    default attribute = permit|
+|    default attribute = permit|
+|  }|
+}
+
+$ tacd import two-defaults
+! two-defaults line 4: this is there already, at line 3
+status 1
+
 file open-quote
 key = k
 user = bob { name = "Bob

@@ -3,11 +3,13 @@
 #![tactic(auto)]
 
 mod expression;
+mod older;
 mod parts;
 mod reading;
 mod text;
 mod unsaid;
 
 pub use expression::Search;
+pub use older::Older;
 pub use text::Text;
 pub use unsaid::Unsaid;

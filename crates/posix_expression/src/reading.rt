@@ -45,6 +45,15 @@ impl Drop for Reading {
     }
 }
 
+// Whether a `-` stands here that isn't the last of its class. After a range POSIX doesn't say what it
+// means.
+fn begins_range(text: &[u8]) -> bool {
+    match text {
+        [b'-', next, ..] => *next != b']',
+        _ => false,
+    }
+}
+
 impl Reading {
     pub(crate) fn new(alloc: Global) -> Reading {
         let mut text = Text::new(alloc);
@@ -115,7 +124,7 @@ impl Reading {
         match rest {
             [b'[', b':' | b'.' | b'=', ..] => self.refuse(Unsaid::NamedClass),
             [first, b'-', last, later @ ..] if *last != b']' => {
-                if first > last || *last == b'[' {
+                if first > last || *last == b'[' || begins_range(later) {
                     return self.refuse(Unsaid::BadClass);
                 }
                 self.spell_in_class(*first);

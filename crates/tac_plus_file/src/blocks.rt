@@ -32,27 +32,29 @@ fn read_attribute(reader: &mut Reader<'_>, first: Token<'_>) -> Result<Attribute
     })
 }
 
-// Passes over `default attribute = permit`, whose first word has been taken.
-fn pass_default(reader: &mut Reader<'_>) -> Result<(), FileFault> {
+// Whether a service permits attributes that it doesn't list. The word `default` has been taken.
+fn read_default(reader: &mut Reader<'_>, service: &mut Service) -> Result<(), FileFault> {
+    let line = reader.line();
+    if let Some((first, _)) = service.default {
+        return Err(reader.wrong(Mistake::Repeated(first)));
+    }
     reader.take_this(b"attribute")?;
     reader.take_equals()?;
-    reader.take_verdict()?;
+    let verdict = reader.take_verdict()?;
+    service.default = Some((line, verdict));
     Ok(())
 }
 
-// The attributes of a service, up to its end.
-fn read_attributes(
-    reader: &mut Reader<'_>,
-    attributes: &mut Vec<Attribute>,
-) -> Result<(), FileFault> {
+// What stands between the braces of a service.
+fn read_attributes(reader: &mut Reader<'_>, service: &mut Service) -> Result<(), FileFault> {
     'attributes: for _ in 0..reader.left() {
         match reader.take()? {
             Token::Close => return Ok(()),
             Token::End => break,
-            token if is_word(token, b"default") => pass_default(reader)?,
+            token if is_word(token, b"default") => read_default(reader, service)?,
             token => {
                 let attribute = read_attribute(reader, token)?;
-                attributes.push(attribute)?;
+                service.attributes.push(attribute)?;
             }
         }
     }
@@ -82,9 +84,10 @@ pub(crate) fn read_service(reader: &mut Reader<'_>) -> Result<Service, FileFault
         line,
         name,
         protocol,
+        default: None,
         attributes: Vec::new(reader.alloc()),
     };
-    read_attributes(reader, &mut service.attributes)?;
+    read_attributes(reader, &mut service)?;
     Ok(service)
 }
 
@@ -142,7 +145,7 @@ pub(crate) fn read_password(
     let line = reader.line();
     let method = take_method(reader)?;
     let text = match method {
-        Method::Cleartext | Method::Des | Method::File => reader.take_text()?,
+        Method::Cleartext | Method::Des | Method::File => reader.take_whole()?,
         Method::Skey | Method::NoPassword | Method::Pam => Bytes::new(reader.alloc()),
     };
     Ok(Password {

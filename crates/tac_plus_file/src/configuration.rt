@@ -91,6 +91,8 @@ pub struct Service {
     pub line: usize,
     pub name: Bytes,
     pub protocol: Option<Bytes>,
+    /// The `default attribute`, and its line.
+    pub default: Option<(usize, Verdict)>,
     pub attributes: Vec<Attribute>,
 }
 

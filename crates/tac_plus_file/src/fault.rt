@@ -15,6 +15,7 @@ pub enum Mistake {
     OpenQuote,
     OpenBrace,
     CarriageReturn,
+    CutWord,
     Include,
     /// It is there already, at this line.
     Repeated(usize),
@@ -33,6 +34,9 @@ impl fmt::Display for Mistake {
             Mistake::OpenBrace => f.write_str("the file ends before its '}'"),
             Mistake::CarriageReturn => f.write_str(
                 "a carriage return: lines are to end in LF alone",
+            ),
+            Mistake::CutWord => f.write_str(
+                "an '=' ends a word: put this hash or password into quotation marks",
             ),
             Mistake::Include => {
                 f.write_str("tac_plus F4.0.4 reads no other file: put them into one first")

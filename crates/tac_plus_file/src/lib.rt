@@ -8,6 +8,7 @@ mod keyword;
 mod reader;
 mod reading;
 mod subject;
+mod words;
 
 pub use configuration::{
     Attribute, Command, Configuration, Extra, Host, Method, Names, Password, Place, Purpose, Rule,

@@ -3,10 +3,10 @@
 use crate::configuration::Word;
 use crate::fault::{FileFault, Mistake};
 use crate::keyword::Keyword;
+use crate::words::{from_line_end, from_quote, split_word, unquoted};
 use basics::Bytes;
-use memchr::memchr;
 use pol_names::Verdict;
-use std::alloc::{AllocError, Global};
+use std::alloc::Global;
 
 /// What stands next in a file.
 #[derive(Clone, Copy)]
@@ -31,65 +31,6 @@ pub(crate) struct Reader<'a> {
     line: usize,
     // the line at which the last token began
     at: usize,
-}
-
-// The text from its next end of a line on.
-fn from_line_end(text: &[u8]) -> &[u8] {
-    match memchr(b'\n', text) {
-        Some(at) => &text[at..],
-        None => &[],
-    }
-}
-
-// A word without quotes goes on to the next blank, `=` or end of a line: a `}`, a `#` or a quotation
-// mark within it belongs to it.
-fn ends_word(byte: u8) -> bool {
-    matches!(byte, b' ' | b'\t' | b'=' | b'\n')
-}
-
-// The first word of a text, and what comes after it.
-fn split_word(text: &[u8]) -> (&[u8], &[u8]) {
-    match text.iter().position(|byte| ends_word(*byte)) {
-        Some(at) => (&text[..at], &text[at..]),
-        None => (text, &[]),
-    }
-}
-
-// The next part of what stands between quotes, and what comes after it; none where it ends. A `\`
-// takes a quotation mark as it is; elsewhere it stays, and what follows it is no sign.
-fn split_quoted(text: &[u8]) -> Option<(&[u8], &[u8])> {
-    match text {
-        [] | [b'"', ..] => None,
-        [b'\\', b'"', later @ ..] => Some((b"\"", later)),
-        [b'\\', _, later @ ..] => Some((&text[..2], later)),
-        [_, later @ ..] => Some((&text[..1], later)),
-    }
-}
-
-// A text from its next quotation mark on.
-fn from_quote(text: &[u8]) -> &[u8] {
-    let mut rest = text;
-    'parts: for _ in 0..text.len() {
-        match split_quoted(rest) {
-            Some((_, later)) => rest = later,
-            None => break,
-        }
-    }
-    rest
-}
-
-// The text that stands between quotes.
-fn unquoted(alloc: Global, quoted: &[u8]) -> Result<Bytes, AllocError> {
-    let mut text = Bytes::new(alloc);
-    let mut rest = quoted;
-    'parts: for _ in 0..quoted.len() {
-        let Some((part, later)) = split_quoted(rest) else {
-            break;
-        };
-        text.extend_from_slice(part)?;
-        rest = later;
-    }
-    Ok(text)
 }
 
 impl<'a> Reader<'a> {
@@ -227,6 +168,15 @@ impl<'a> Reader<'a> {
     /// Takes any word.
     pub(crate) fn take_text(&mut self) -> Result<Bytes, FileFault> {
         let token = self.take()?;
+        self.text_of(token)
+    }
+
+    /// Takes any word, which no `=` may cut short.
+    pub(crate) fn take_whole(&mut self) -> Result<Bytes, FileFault> {
+        let token = self.take()?;
+        if let (Token::Word(_), [b'=', ..]) = (token, self.rest) {
+            return Err(self.wrong(Mistake::CutWord));
+        }
         self.text_of(token)
     }
 

@@ -3,7 +3,7 @@
 use crate::draft::Draft;
 use pol_names::Verdict;
 use pol_pattern::{Pattern, PatternFault};
-use posix_expression::{Search, Text, Unsaid};
+use posix_expression::{Older, Search, Text, Unsaid};
 use tac_plus_file::{Command, Rule};
 
 /// What is searched for by rules of one verdict that stand one after another.
@@ -117,14 +117,30 @@ impl Draft {
         self.pending = Some(Pending { verdict, search });
     }
 
-    // That a rule can't be said.
-    fn tell_rule(&mut self, rule: &Rule, why: Unsaid) {
-        let word = rule.expression.as_slice();
-        let (before, after) = match rule.verdict {
-            Verdict::Permit => ("permit ", ": left out"),
-            Verdict::Deny => ("deny ", ": the command is denied from here on"),
+    // Tells of a rule.
+    fn tell_rule(&mut self, rule: &Rule, why: &str, after: &str) {
+        let before = match rule.verdict {
+            Verdict::Permit => "permit ",
+            Verdict::Deny => "deny ",
         };
-        self.remark(rule.line, before, word, &[": ", why.text(), after], true);
+        let word = rule.expression.as_slice();
+        self.remark(rule.line, before, word, &[": ", why, after], true);
+    }
+
+    // That a rule can't be said.
+    fn tell_unsaid(&mut self, rule: &Rule, why: Unsaid) {
+        let after = match rule.verdict {
+            Verdict::Permit => ": left out",
+            Verdict::Deny => ": the command is denied from here on",
+        };
+        self.tell_rule(rule, why.text(), after);
+    }
+
+    // That older expressions read a rule otherwise, if they do. It is said as the C library reads it.
+    fn tell_older(&mut self, rule: &Rule) {
+        if let Some(older) = Older::find(rule.expression.as_slice()) {
+            self.tell_rule(rule, older.text(), ": that reading is left out");
+        }
     }
 
     // Adds the rules of a command, but for one that is pending, and answers whether they decide all
@@ -137,6 +153,7 @@ impl Draft {
             if self.is_full {
                 return false;
             }
+            self.tell_older(rule);
             match self.search_of(name, rule) {
                 Ok(search) => {
                     let decides_all = search.is_everything();
@@ -146,7 +163,7 @@ impl Draft {
                     }
                 }
                 Err(why) => {
-                    self.tell_rule(rule, why);
+                    self.tell_unsaid(rule, why);
                     if rule.verdict == Verdict::Deny {
                         self.push_pending(name);
                         self.deny_command(name);

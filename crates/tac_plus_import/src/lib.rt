@@ -4,8 +4,10 @@
 mod chain;
 mod commands;
 mod draft;
+mod hashes;
 mod hosts;
 mod importing;
+mod levels;
 mod names;
 mod remark;
 mod secrets;

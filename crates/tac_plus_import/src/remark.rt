@@ -27,6 +27,30 @@ impl What {
         " is no password in the clear and no hash that begins with '$6$': left out",
     );
 
+    pub(crate) const MORE_ROUNDS: What = What::LeftOut(
+        " is a SHA-512 hash with more rounds than are taken, 999999: left out",
+    );
+
+    pub(crate) const FEWER_ROUNDS: What = What::LeftOut(
+        " is a SHA-512 hash with fewer rounds than are taken, 1000: left out",
+    );
+
+    pub(crate) const ROUNDS: What = What::LeftOut(
+        " is a SHA-512 hash whose rounds aren't a number in its fewest digits: left out",
+    );
+
+    pub(crate) const EMPTY_SALT: What = What::LeftOut(
+        " is a SHA-512 hash with an empty salt: left out",
+    );
+
+    pub(crate) const SALT: What = What::LeftOut(
+        " is a SHA-512 hash whose salt isn't 1 to 16 of './0-9A-Za-z': left out",
+    );
+
+    pub(crate) const DIGEST: What = What::LeftOut(
+        " is a SHA-512 hash whose salt isn't followed by '$' and 86 of './0-9A-Za-z': left out",
+    );
+
     pub(crate) const SECRET: What = What::LeftOut(" isn't 1 to 128 printable characters: left out");
 
     pub(crate) const OTHER_PASSWORD: What = What::LeftOut(
@@ -76,6 +100,10 @@ impl What {
     );
 
     pub(crate) const SERVICE_NAME: What = What::LeftOut(" is no service here: left out");
+
+    pub(crate) const CLOSED_SERVICE: What = What::LeftOut(
+        " refuses mandatory arguments that it doesn't list, which are permitted here: left out",
+    );
 
     pub(crate) const SHELL_SERVICE: What = What::LeftOut(
         " is asked for as a shell, which 'exec' is: left out",

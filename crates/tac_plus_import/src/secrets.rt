@@ -2,6 +2,7 @@
 
 use crate::chain::nearest_password;
 use crate::draft::{Draft, add_line};
+use crate::hashes::hash_finding;
 use crate::remark::{What, purpose_word};
 use basics::is_text;
 use pol_names::{ClearSecret, Credential, Kind};
@@ -58,6 +59,7 @@ fn finding(
     if !is_said(password) {
         return match password.method {
             Method::Cleartext => Some(What::SECRET),
+            Method::Des => Some(hash_finding(password.text.as_slice())),
             _ => Some(What::METHOD),
         };
     }

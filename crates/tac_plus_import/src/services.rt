@@ -1,49 +1,16 @@
-//! Services and the levels of shells.
+//! Services and their attributes.
 
-use crate::chain::{is_shell, nearest_shell, shell_of};
+use crate::chain::{is_shell, nearest_shell};
 use crate::draft::{Draft, add_line};
+use crate::levels::is_level;
 use crate::remark::What;
-use basics::{Bytes, read_number};
-use pol_names::ServiceId;
+use basics::Bytes;
+use pol_names::{ServiceId, Verdict};
 use posix_expression::Text;
 use tac_plus_file::{Attribute, Service, Subject};
 
 /// How many lines about services a subject has at most.
 const MOST_LINES: usize = 64;
-
-fn is_level(attribute: &Attribute) -> bool {
-    attribute.name.as_slice() == b"priv-lvl".as_slice()
-}
-
-// The level of a shell that an attribute is, of 0 to 15.
-fn level_of(attribute: &Attribute) -> Option<u32> {
-    match read_number(attribute.value.as_slice(), 4) {
-        Some(level) if level <= 15 && is_level(attribute) => Some(level),
-        _ => None,
-    }
-}
-
-// The first level of a shell, and whether it is optional.
-fn shell_level(shell: &Service) -> Option<(bool, u32)> {
-    'attributes: for attribute in &shell.attributes {
-        if let Some(level) = level_of(attribute) {
-            return Some((attribute.is_optional, level));
-        }
-    }
-    None
-}
-
-// Whether a shell of any of these has a level.
-fn have_level(groups: &[&Subject]) -> bool {
-    'groups: for group in groups {
-        if let Some(shell) = shell_of(group) {
-            if shell_level(shell).is_some() {
-                return true;
-            }
-        }
-    }
-    false
-}
 
 // Whether a shell has attributes beside its level.
 fn has_attributes(shell: &Service) -> bool {
@@ -161,6 +128,14 @@ fn is_wanted(service: &Service, groups: &[&Subject]) -> bool {
     }
 }
 
+// Tells that a service refuses what it doesn't list, where it does.
+fn tell_default(draft: &mut Draft, service: &Service) {
+    match service.default {
+        Some((_, Verdict::Permit)) => {}
+        _ => draft.tell(service.line, What::CLOSED_SERVICE, service.name.as_slice()),
+    }
+}
+
 // The lines of a service.
 fn push_service(draft: &mut Draft, service: &Service, groups: &[&Subject]) {
     if service.name.as_slice() == b"shell".as_slice() {
@@ -175,6 +150,9 @@ fn push_service(draft: &mut Draft, service: &Service, groups: &[&Subject]) {
     push_attributes(draft, &id, name, service);
     if draft.lines == before && is_wanted(service, groups) {
         push_line(draft, service.line, &[name], name);
+    }
+    if draft.lines > before || is_shell(service) {
+        tell_default(draft, service);
     }
 }
 
@@ -191,44 +169,4 @@ pub(crate) fn write_services(draft: &mut Draft, subject: &Subject, groups: &[&Su
         }
     }
     draft.is_third |= draft.lines > 0;
-}
-
-// Tells of what looks like a level of a shell and isn't the one that is written.
-fn tell_levels(draft: &mut Draft, shell: &Service) {
-    let mut is_written = false;
-    'attributes: for attribute in &shell.attributes {
-        if is_written || level_of(attribute).is_none() {
-            if is_level(attribute) {
-                draft.tell(attribute.line, What::LEVEL, attribute.value.as_slice());
-            }
-        } else {
-            is_written = true;
-        }
-    }
-}
-
-/// Writes the level of a subject's shells, whose groups are these.
-pub(crate) fn write_level(draft: &mut Draft, subject: &Subject, groups: &[&Subject]) {
-    let Some(shell) = shell_of(subject) else {
-        return;
-    };
-    tell_levels(draft, shell);
-    let level = match shell_level(shell) {
-        Some((is_optional, level)) => {
-            if is_optional {
-                draft.tell(shell.line, What::OPTIONAL_LEVEL, b"exec");
-            }
-            level
-        }
-        None => {
-            if !have_level(groups) {
-                return;
-            }
-            draft.tell(shell.line, What::LEVEL_ONE, b"exec");
-            1
-        }
-    };
-    draft.policy.add(b"priv ");
-    draft.policy.add_number(level as usize);
-    draft.policy.push(b'\n');
 }

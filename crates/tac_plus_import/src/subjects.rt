@@ -2,9 +2,10 @@
 
 use crate::chain::{MOST_COMMANDS, Standing, has_command, lists, nearest_shell};
 use crate::draft::Draft;
+use crate::levels::write_level;
 use crate::remark::What;
 use crate::secrets::write_secrets;
-use crate::services::{write_level, write_services};
+use crate::services::write_services;
 use basics::is_text;
 use pol_names::Verdict;
 use tac_plus_file::Subject;
