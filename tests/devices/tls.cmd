@@ -49,8 +49,8 @@ $ tacd devices devices ::1 ::2 ::3 ::4
 ::3 c ::3/128 line 9
 ::4 d ::4/128 line 12
 
-# A name is the whole rest of its line, blanks and all. It has up to 64 symbols, and devices may
-# share one.
+# A name is the whole rest of its line, blanks and all. It has up to 64 symbols. Devices may share
+# one, which is remarked on.
 file devices
 device a
 at ::1
@@ -73,6 +73,63 @@ tls edge-1.nnnnnnnnnnnnnnnnnnnnnnnnnnnnnnnnnnnnnnnnnnnnnnnnnnnnnnnnn
 
 $ tacd devices devices
 devices ok: 6 devices, 6 prefixes
+line 6: the common name of line 3
+
+# A name that stands again is told with the first line that has it, after what is remarked on the
+# key of its device. A 'tls' without a name may stand again.
+file names.devices
+device a
+tls one.example
+at ::1
+device b
+tls
+at ::2
+device c
+key tundra
+at ::3
+tls one.example
+device d
+at ::4
+tls One.example
+device e
+tls one.example
+at ::5
+device f
+tls
+at ::6
+device g
+tls One.example
+at ::7
+
+$ tacd devices names.devices
+devices ok: 7 devices, 7 prefixes
+line 8: a key of 6 characters
+line 10: the common name of line 2
+line 15: the common name of line 2
+line 21: the common name of line 13
+
+# An old key beside 'tls', with a name or without one, in whichever order the lines stand.
+file both.devices
+device a
+at ::1
+key wintry-tundra-ridge-41
+old-key wide-kelp-forest-0092
+tls
+device b
+tls b.example
+old-key "wide-kelp-forest"
+at ::2
+key fjord-and-fell-2026-11
+device c
+at ::3
+key fjord-and-fell-2027-11
+old-key wide-kelp-forest-0093
+
+$ tacd devices both.devices
+devices ok: 3 devices, 3 prefixes
+line 4: an old key beside the 'tls' of line 5
+line 8: a key in quotes, which are part of it
+line 8: an old key beside the 'tls' of line 7
 
 # Something is remarked on the keys of those devices alone that have one.
 file devices
@@ -104,6 +161,7 @@ devices ok: 6 devices, 6 prefixes
 line 5: a key of 6 characters
 line 13: the key of line 5
 line 13: a key of 6 characters
+line 14: an old key beside the 'tls' of line 15
 
 # ---- what is refused
 

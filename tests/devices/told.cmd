@@ -55,8 +55,8 @@ line 13: the key of line 7
 line 13: a key of 15 characters
 line 16: the key of line 2
 
-# Old keys are no keys that something is remarked on: they may stand twice, be short, and be the
-# keys of others.
+# Old keys may stand twice, be short, and be the keys of others: on none of these something is
+# remarked.
 file change.devices
 device a
 at ::1
@@ -77,6 +77,7 @@ old-key tundra
 
 $ tacd devices change.devices
 devices ok: 4 devices, 4 prefixes
+line 7: a key with a blank at an end, which is part of it
 
 $ tacd devices change.devices ::1 ::3 ::5
 ::1 a ::1/128 line 2
@@ -88,7 +89,7 @@ status 5
 file long.devices
 device a
 at ::1
-key kkkkkkkkkkkkkkkkkkkkkkkkkkkkkkkkkkkkkkkkkkkkkkkkkkkkkkkkkkkkkkkkkkkkkkkkkkkkkkkkkkkkkkkkkkkkkkkkkkkkkkkkkkkkkkkkkkkkkkkkkkkkkkkk
+key mkkkkkkkkkkkkkkkkkkkkkkkkkkkkkkkkkkkkkkkkkkkkkkkkkkkkkkkkkkkkkkkkkkkkkkkkkkkkkkkkkkkkkkkkkkkkkkkkkkkkkkkkkkkkkkkkkkkkkkkkkkkkkkk
 old-key lkkkkkkkkkkkkkkkkkkkkkkkkkkkkkkkkkkkkkkkkkkkkkkkkkkkkkkkkkkkkkkkkkkkkkkkkkkkkkkkkkkkkkkkkkkkkkkkkkkkkkkkkkkkkkkkkkkkkkkkkkkkkkkk
 
 $ tacd devices long.devices
@@ -118,6 +119,7 @@ connections 10000␃
 
 $ tacd devices blanks.devices
 devices ok: 1 devices, 1 prefixes
+line 6: a key with a blank at an end, which is part of it
 
 # An empty file, and others of a few lines.
 file devices
@@ -141,6 +143,7 @@ key k
 $ tacd devices devices
 devices ok: 1 devices, 1 prefixes
 line 3: a key of 1 characters
+line 3: a key of one character, alone or repeated
 
 file devices
 device a
@@ -152,6 +155,7 @@ connections 10000
 $ tacd devices devices
 devices ok: 1 devices, 2 prefixes
 line 2: a key of 1 characters
+line 2: a key of one character, alone or repeated
 
 file devices
 device a
@@ -167,4 +171,6 @@ connections 1
 $ tacd devices devices
 devices ok: 2 devices, 4 prefixes
 line 3: a key of 5 characters
+line 3: a key with a blank at an end, which is part of it
 line 8: a key of 1 characters
+line 8: a key of one character, alone or repeated

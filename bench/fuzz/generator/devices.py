@@ -5,7 +5,12 @@ from typing import NamedTuple
 
 NAMES = ["core-1", "access", "a", "B.example", "x" * 32, "edge@2"]
 BAD_NAMES = ["", "x" * 33, "a/b", "a b"]
-KEYS = ["k", "tundra", "wintry-tundra-41", "wide kelp ", "x" * 128, "0123456789abcde", "#"]
+KEYS = ["k", "tundra", "wintry-tundra-41", "wide kelp ", "x" * 128, "0123456789abcde", "#", " kelp"]
+KEYS += ['"wide-kelp-forest"', "'wide kelp'", '"wide', "kelp'", '"', '""', "kelp # a comment", "kelp#a"]
+KEYS += ["# a comment", "= kelp", "=kelp", "key = kelp", "key=kelp", "key kelp", "key =", "keys = kelp"]
+KEYS += ["7 02050D480809", "7 02050d48", "7 02050D4", "7 0205", "7 02", "7", "7 kelp", "02050D480809"]
+KEYS += ["02050d480809", "02050D48080", "16050D480809", "030752180500", "0205", "02", "12345678901234"]
+KEYS += ["070C285F4D06", "15060e1f10", "1234", "00FF", "xxxxxxxxxxxxxxxy", "    "]
 BAD_KEYS = ["", "x" * 129, "k\xf6y"]
 COMMON_NAMES = ["core-1.example.net", "Access Switches", " a", "x" * 64, "#", "tls"]
 BAD_COMMON_NAMES = ["", "x" * 65, "\xe9tage"]
@@ -40,7 +45,7 @@ def listing(choices):
         text = choices.spoiled(text, " #/:.0aZ\t\r\n\xe9\x7f")
     if choices.chance(0.1):
         text = text.removesuffix("\n")
-    asked = () if choices.chance(0.1) else tuple(words(choices, prefixes))
+    asked = () if choices.chance(0.3) else tuple(words(choices, prefixes))
     return Listing(text.encode("latin-1"), asked)
 
 

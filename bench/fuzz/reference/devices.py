@@ -2,6 +2,8 @@
 those of Python's ipaddress."""
 
 import ipaddress
+import itertools
+import re
 from typing import NamedTuple
 
 from .texts import is_name, is_secret, is_text, lines_of, number_of, text_of
@@ -9,6 +11,8 @@ from .texts import is_name, is_secret, is_text, lines_of, number_of, text_of
 MOST_DEVICES, MOST_PREFIXES, MOST_CONNECTIONS = 4_096, 16_384, 10_000
 MOST_COMMON_NAME = 64
 LEAST_KEY = 16
+# What Cisco's type 7 hides a text under.
+MASK = b"dsfd;kfoA,.iyewrkldJKDHSUBsgvca69834ncxv9873254k;fg87"
 MAPPED = ipaddress.ip_network("::ffff:0:0/96")
 
 
@@ -29,6 +33,7 @@ class Device:
         self.old_key = None
         # the common name, or an empty text for any
         self.tls = None
+        self.tls_line = None
         self.connections = None
         # each with the line that says it
         self.prefixes = {}
@@ -54,15 +59,57 @@ def listing(text, words):
 def told(devices):
     prefixes = sum(len(device.prefixes) for device in devices)
     yield f"devices ok: {len(devices)} devices, {prefixes} prefixes"
-    first = {}
+    keys, names = {}, {}
     for device in devices:
-        if device.key is None:
-            continue
-        text, line = device.key
-        if first.setdefault(text, line) != line:
-            yield f"line {line}: the key of line {first[text]}"
-        if len(text) < LEAST_KEY:
-            yield f"line {line}: a key of {len(text)} characters"
+        if device.key is not None:
+            yield from told_of_keys(device, keys)
+        if device.tls:
+            line = device.tls_line
+            if names.setdefault(device.tls, line) != line:
+                yield f"line {line}: the common name of line {names[device.tls]}"
+
+
+def told_of_keys(device, first):
+    text, line = device.key
+    if first.setdefault(text, line) != line:
+        yield f"line {line}: the key of line {first[text]}"
+    if len(text) < LEAST_KEY:
+        yield f"line {line}: a key of {len(text)} characters"
+    if doubt(text) is not None:
+        yield f"line {line}: {doubt(text)}"
+    if device.old_key is None:
+        return
+    old, line = device.old_key
+    if doubt(old) is not None:
+        yield f"line {line}: {doubt(old)}"
+    if device.tls is not None:
+        yield f"line {line}: an old key beside the 'tls' of line {device.tls_line}"
+
+
+def doubt(key):
+    """Why it is doubtful that a key is the one that was meant, or None."""
+    if key != key.strip(" "):
+        return "a key with a blank at an end, which is part of it"
+    if re.fullmatch(r"""(["']).*\1""", key):
+        return "a key in quotes, which are part of it"
+    if " #" in key:
+        return "a key with '#' after a blank: no comment, but part of it"
+    if re.match("= |key ?=", key):
+        return "a key that begins with 'key =' or '= ', which is part of it"
+    if re.fullmatch("7 ([0-9A-Fa-f]{2}){2,}", key) or is_hidden(key):
+        return "a key that looks like Cisco's type 7: it is taken as it stands"
+    if len(set(key)) == 1:
+        return "a key of one character, alone or repeated"
+    return None
+
+
+def is_hidden(key):
+    """Whether Cisco's type 7 makes it of some text, unless it is a number in decimal digits."""
+    if key.isdigit() or not re.fullmatch("(0[0-9]|1[0-5])([0-9A-Fa-f]{2})+", key):
+        return False
+    places = itertools.islice(itertools.cycle(MASK), int(key[:2]), None)
+    hidden = bytes(byte ^ mask for byte, mask in zip(bytes.fromhex(key[2:]), places))
+    return all(0x20 <= symbol <= 0x7E for symbol in hidden)
 
 
 def found_line(word, place):
@@ -132,9 +179,9 @@ def take(devices, number, line):
     elif word == "key":
         set_key(devices[-1], number, rest)
     elif word == "old-key":
-        set_old_key(devices[-1], rest)
+        set_old_key(devices[-1], number, rest)
     elif word == "tls":
-        set_tls(devices[-1], rest if blank else None)
+        set_tls(devices[-1], number, rest if blank else None)
     else:
         set_connections(devices[-1], rest)
 
@@ -165,28 +212,29 @@ def set_key(device, number, text):
         raise Refused("5 BadValue")
     if device.key is not None:
         raise Refused("6 Repeated")
-    if device.old_key == text:
+    if device.old_key is not None and device.old_key.text == text:
         raise Refused("6 Repeated")
     device.key = Key(text, number)
 
 
-def set_old_key(device, text):
+def set_old_key(device, number, text):
     if not is_secret(text):
         raise Refused("5 BadValue")
     if device.old_key is not None:
         raise Refused("6 Repeated")
     if device.key is not None and device.key.text == text:
         raise Refused("6 Repeated")
-    device.old_key = text
+    device.old_key = Key(text, number)
 
 
-def set_tls(device, name):
+def set_tls(device, number, name):
     """With certificates of this common name, or with any where the line has none."""
     if name is not None and not 1 <= len(name) <= MOST_COMMON_NAME:
         raise Refused("5 BadValue")
     if device.tls is not None:
         raise Refused("6 Repeated")
     device.tls = "" if name is None else name
+    device.tls_line = number
 
 
 def set_connections(device, text):

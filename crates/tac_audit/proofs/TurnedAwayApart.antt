@@ -10,7 +10,7 @@ use Rattle.std.proofs.lemmas.List.{append_cancel_right}
 use Rattle.tac_audit.specs.declared.event.Origin.{Origin}
 use Rattle.tac_audit.specs.declared.event.Event.{Event}
 use Rattle.tac_audit.specs.declared.event.WhyTurnedAway.{WhyTurnedAway}
-use Rattle.tac_audit.specs.declared.event.WhyTurnedAway.TheVariants.{UnknownDevice, NoKey, NoTls, OtherCertificate, BadProxyHeader, TooManyConnections}
+use Rattle.tac_audit.specs.declared.event.WhyTurnedAway.TheVariants.{UnknownDevice, NoKey, NoTls, NoCertificate, OtherCertificate, BadProxyHeader, TooManyConnections}
 use Rattle.tac_audit.specs.declared.event.TurnedAway.{TurnedAway}
 use Rattle.tac_audit.specs.Json.{text_json, member}
 use Rattle.tac_audit.specs.Event.{turned_away_word, session_digits, origin_json, type_json, begun, ended, turned_away_line}
@@ -23,29 +23,32 @@ word_bytes : (a : WhyTurnedAway) → are_bytes (turned_away_word a) ≡ true
 word_bytes UnknownDevice = refl
 word_bytes NoKey = refl
 word_bytes NoTls = refl
+word_bytes NoCertificate = refl
 word_bytes OtherCertificate = refl
 word_bytes BadProxyHeader = refl
 word_bytes TooManyConnections = refl
 
--- which it is whose word has this fifth byte
-why_at : ℕ → WhyTurnedAway
-why_at byte =
-    if eqb byte 0x6F then UnknownDevice
-    else if eqb byte 0x65 then NoKey
-    else if eqb byte 0x6C then NoTls
-    else if eqb byte 0x72 then OtherCertificate
-    else if eqb byte 0x70 then BadProxyHeader
+-- which it is whose word has this fourth byte, and this fifth one
+why_at : ℕ → ℕ → WhyTurnedAway
+why_at fourth fifth =
+    if eqb fourth 0x6B then NoKey
+    else if eqb fourth 0x63 then NoCertificate
+    else if eqb fifth 0x6F then UnknownDevice
+    else if eqb fifth 0x6C then NoTls
+    else if eqb fifth 0x72 then OtherCertificate
+    else if eqb fifth 0x70 then BadProxyHeader
     else TooManyConnections
 
 -- which it is that has this word
 word_at : List ℕ → WhyTurnedAway
-word_at word = why_at (slice_index word 4)
+word_at word = why_at (slice_index word 3) (slice_index word 4)
 
 word_read : (a : WhyTurnedAway) → word_at (turned_away_word a) ≡ a
 unfolding word_at why_at
 word_read UnknownDevice = refl
 word_read NoKey = refl
 word_read NoTls = refl
+word_read NoCertificate = refl
 word_read OtherCertificate = refl
 word_read BadProxyHeader = refl
 word_read TooManyConnections = refl

@@ -49,6 +49,7 @@ abbrev pub turned_away_word : WhyTurnedAway → List ℕ
 turned_away_word refusals.UnknownDevice = codes "unknown device"
 turned_away_word refusals.NoKey = codes "no key"
 turned_away_word refusals.NoTls = codes "no tls"
+turned_away_word refusals.NoCertificate = codes "no certificate"
 turned_away_word refusals.OtherCertificate = codes "other certificate"
 turned_away_word refusals.BadProxyHeader = codes "bad proxy header"
 turned_away_word refusals.TooManyConnections = codes "too many connections"

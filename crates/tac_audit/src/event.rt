@@ -166,9 +166,11 @@ pub enum WhyTurnedAway {
     NoKey,
     /// Its device may not come by a proxy.
     NoTls,
+    /// Its device may come by a proxy, which verified no certificate of it.
+    NoCertificate,
     /// Its device may come by a proxy, with a certificate of another name.
     OtherCertificate,
-    /// What the proxy told isn't a header.
+    /// What the proxy told isn't a header, or tells of no caller.
     BadProxyHeader,
     /// Its address has as many connections as it may have at once.
     TooManyConnections,

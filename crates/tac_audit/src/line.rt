@@ -53,6 +53,7 @@ fn turned_away_word(why: WhyTurnedAway) -> &'static [u8]
         WhyTurnedAway::UnknownDevice => b"unknown device",
         WhyTurnedAway::NoKey => b"no key",
         WhyTurnedAway::NoTls => b"no tls",
+        WhyTurnedAway::NoCertificate => b"no certificate",
         WhyTurnedAway::OtherCertificate => b"other certificate",
         WhyTurnedAway::BadProxyHeader => b"bad proxy header",
         WhyTurnedAway::TooManyConnections => b"too many connections",

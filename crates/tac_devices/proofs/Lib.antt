@@ -5,5 +5,6 @@ pub mod ReadingFacts
 pub mod OnlyFacts
 pub mod TableFacts
 pub mod ListingFacts
+pub mod DoubtFacts
 pub mod RemarkFacts
 pub mod RenewalFacts

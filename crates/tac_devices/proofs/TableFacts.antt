@@ -112,7 +112,7 @@ right_device line name draft next right e = by (list_any (bytes_eq name) draft.n
     made =
         record draft {
           done = whole draft;
-          present = Some (record { name = name; line = line; places = []; key = None; old_key = None; tls = None; connections = None });
+          present = Some (record { name = name; line = line; places = []; key = None; old_key = None; tls = None; tls_line = None; connections = None });
           names = draft.names ++ name ∷ [];
         }
 
@@ -121,7 +121,7 @@ right_device line name draft next right e = by (list_any (bytes_eq name) draft.n
     by false true h = absurd (cc)
     by false false h =
         subst Right (ok_same made next h) (record {
-          all = in_push (whole draft) (record { name = name; line = line; places = []; key = None; old_key = None; tls = None; connections = None }) ∙ append-nil (prefixes_in (whole draft)) ∙ right.all;
+          all = in_push (whole draft) (record { name = name; line = line; places = []; key = None; old_key = None; tls = None; tls_line = None; connections = None }) ∙ append-nil (prefixes_in (whole draft)) ∙ right.all;
           apart = right.apart;
           bare = right.bare;
           few = right.few;
@@ -148,13 +148,13 @@ key_keeps line (Some key) entry next e = by entry.key e
     by (Some old) h = absurd (cc)
     by None h = apart_keeps (record entry { key = Some (record { key = key; line = line }) }) next h
 
-old_key_keeps : (old_key : Option (List ℕ)) (entry next : Entry) → with_old_key old_key entry ≡ Ok next → next.places ≡ entry.places
-old_key_keeps None entry next e = absurd (cc)
-old_key_keeps (Some key) entry next e = by entry.old_key e
+old_key_keeps : (line : ℕ) (old_key : Option (List ℕ)) (entry next : Entry) → with_old_key line old_key entry ≡ Ok next → next.places ≡ entry.places
+old_key_keeps line None entry next e = absurd (cc)
+old_key_keeps line (Some key) entry next e = by entry.old_key e
   where
-    by : (old : Option (List ℕ)) → (set_once (Some key) old (λ key. record entry { old_key = Some key }) >>= keys_apart) ≡ Ok next → next.places ≡ entry.places
+    by : (old : Option KeyLine) → (set_once (Some key) old (λ key. record entry { old_key = Some (record { key = key; line = line }) }) >>= keys_apart) ≡ Ok next → next.places ≡ entry.places
     by (Some old) h = absurd (cc)
-    by None h = apart_keeps (record entry { old_key = Some key }) next h
+    by None h = apart_keeps (record entry { old_key = Some (record { key = key; line = line }) }) next h
 
 connections_keep : (n : Option ℕ) (entry next : Entry) → with_connections n entry ≡ Ok next → next.places ≡ entry.places
 connections_keep None entry next e = absurd (cc)
@@ -164,11 +164,11 @@ connections_keep (Some n) entry next e = by entry.connections e
     by (Some old) h = absurd (cc)
     by None h = sym (ap places_if h)
 
-tls_keeps : (tls : Option Tls) (entry next : Entry) → with_tls tls entry ≡ Ok next → next.places ≡ entry.places
-tls_keeps None entry next e = absurd (cc)
-tls_keeps (Some tls) entry next e = by entry.tls e
+tls_keeps : (line : ℕ) (tls : Option Tls) (entry next : Entry) → with_tls line tls entry ≡ Ok next → next.places ≡ entry.places
+tls_keeps line None entry next e = absurd (cc)
+tls_keeps line (Some tls) entry next e = by entry.tls e
   where
-    by : (old : Option Tls) → set_once (Some tls) old (λ tls. record entry { tls = Some tls }) ≡ Ok next → next.places ≡ entry.places
+    by : (old : Option Tls) → set_once (Some tls) old (λ tls. record entry { tls = Some tls; tls_line = Some line }) ≡ Ok next → next.places ≡ entry.places
     by (Some old) h = absurd (cc)
     by None h = sym (ap places_if h)
 
@@ -224,9 +224,9 @@ right_said line (said.At (Some p)) bare draft next right e = right_prefix line p
 right_said line (said.Key key) bare draft next right e =
     right_present (with_key line key) (key_keeps line key) draft.done draft.present draft.names draft.prefixes next right e
 right_said line (said.OldKey old_key) bare draft next right e =
-    right_present (with_old_key old_key) (old_key_keeps old_key) draft.done draft.present draft.names draft.prefixes next right e
+    right_present (with_old_key line old_key) (old_key_keeps line old_key) draft.done draft.present draft.names draft.prefixes next right e
 right_said line (said.Tls tls) bare draft next right e =
-    right_present (with_tls tls) (tls_keeps tls) draft.done draft.present draft.names draft.prefixes next right e
+    right_present (with_tls line tls) (tls_keeps line tls) draft.done draft.present draft.names draft.prefixes next right e
 right_said line (said.Connections n) bare draft next right e =
     right_present (with_connections n) (connections_keep n) draft.done draft.present draft.names draft.prefixes next right e
 

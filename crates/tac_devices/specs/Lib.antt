@@ -5,6 +5,7 @@ pub mod Text
 pub mod Reading
 pub mod FaultText
 pub mod Devices
+pub mod KeyDoubt
 pub mod Remarks
 pub mod Listing
 pub mod Renewal

@@ -59,6 +59,7 @@ with_device line name draft =
         key = None;
         old_key = None;
         tls = None;
+        tls_line = None;
         connections = None;
       });
       names = draft.names ++ name ∷ [];
@@ -108,9 +109,9 @@ set_once (Some value) (Some old) change = Err Repeated
 set_once (Some value) None change = Ok (change value)
 
 -- whether a device has the same key twice, as its key and as its old one
-abbrev pub same_keys : Option KeyLine → Option (List ℕ) → Bool
-same_keys (Some line) (Some old_key) = bytes_eq line.key old_key
-same_keys (Some line) None = false
+abbrev pub same_keys : Option KeyLine → Option KeyLine → Bool
+same_keys (Some key) (Some old_key) = bytes_eq key.key old_key.key
+same_keys (Some key) None = false
 same_keys None old_key = false
 
 -- then the line that says it again is refused
@@ -123,13 +124,15 @@ with_key line key entry =
     (λ key. record entry { key = Some (record { key = key; line = line }) })
     >>= keys_apart
 
-abbrev pub with_old_key : Option (List ℕ) → Entry → Result Entry DevicesRefusal
-with_old_key old_key entry =
-    set_once old_key entry.old_key (λ old_key. record entry { old_key = Some old_key })
+abbrev pub with_old_key : ℕ → Option (List ℕ) → Entry → Result Entry DevicesRefusal
+with_old_key line old_key entry =
+    set_once old_key entry.old_key
+    (λ key. record entry { old_key = Some (record { key = key; line = line }) })
     >>= keys_apart
 
-abbrev pub with_tls : Option Tls → Entry → Result Entry DevicesRefusal
-with_tls tls entry = set_once tls entry.tls (λ tls. record entry { tls = Some tls })
+abbrev pub with_tls : ℕ → Option Tls → Entry → Result Entry DevicesRefusal
+with_tls line tls entry =
+    set_once tls entry.tls (λ tls. record entry { tls = Some tls; tls_line = Some line })
 
 abbrev pub with_connections : Option ℕ → Entry → Result Entry DevicesRefusal
 with_connections connections entry =
@@ -143,8 +146,8 @@ with_said line (said.Device None) draft = Err BadName
 with_said line (said.Device (Some name)) draft = with_device line name draft
 with_said line (said.At prefix) draft = with_prefix line prefix draft
 with_said line (said.Key key) draft = with_present (with_key line key) draft
-with_said line (said.OldKey old_key) draft = with_present (with_old_key old_key) draft
-with_said line (said.Tls tls) draft = with_present (with_tls tls) draft
+with_said line (said.OldKey old_key) draft = with_present (with_old_key line old_key) draft
+with_said line (said.Tls tls) draft = with_present (with_tls line tls) draft
 with_said line (said.Connections n) draft = with_present (with_connections n) draft
 
 -- ---- lines
@@ -166,17 +169,23 @@ Makes number (line ∷ lines) draft result =
 
 -- ---- whole texts
 
-abbrev pub secret_of : Entry → KeyLine → Secret
-secret_of entry key =
-    record { keys = record { present = key.key; old = entry.old_key }; line = key.line }
+-- a key, and the old one beside it
+abbrev pub secret_by : KeyLine → Option KeyLine → Secret
+secret_by key old =
+    record {
+      keys = record { present = key.key; old = option_map (λ old. old.key) old };
+      line = key.line;
+      old_line = option_map (λ old. old.line) old;
+    }
 
 abbrev pub device_of : Entry → Device
 device_of entry =
     record {
       name = entry.name;
       places = entry.places;
-      secret = option_map (secret_of entry) entry.key;
+      secret = option_map (λ key. secret_by key entry.old_key) entry.key;
       tls = entry.tls;
+      tls_line = entry.tls_line;
       connections = entry.connections;
     }
 

@@ -1,14 +1,13 @@
 //! A device, or several that share what lets them in.
 
 ghost use Rattle.std.specs.Prelude.{◌≡◌};
-ghost use Rattle.std.specs.Option.{option_copied};
 ghost use Rattle.tac_devices.specs.Tls as specs;
 
 use crate::prefix::Prefix;
 use basics::Sequence;
 use pol_names::Name;
 use tac_first::Keys;
-use tac_proxy::CommonName;
+use tac_proxy::{Certificate, CommonName};
 
 /// The addresses of a device that begin so, and the line that says it.
 #[derive(Clone, Copy)]
@@ -17,38 +16,46 @@ pub struct Place {
     pub line: usize,
 }
 
-/// The secrets that a device shares with the server, and the line that says the present one.
+/// The secrets that a device shares with the server, and the lines that say them.
 pub struct Secret {
     /// The present key, and one that the device had before, if that is still taken.
     pub keys: Keys,
+    /// The line that says the present key.
     pub line: usize,
+    /// The line that says the old one, if there is one.
+    pub old_line: Option<usize>,
 }
 
 // By hand, so that a proof of an owner has one call at each exit, not a drop of each field.
 impl Drop for Secret {
     fn drop(self) {
-        let Secret { keys: _, line: _ } = self;
+        let Secret {
+            keys: _,
+            line: _,
+            old_line: _,
+        } = self;
     }
 }
 
 /// With which certificates a device may come inside TLS, by a proxy that verified them (RFC 9887).
 #[derive(Clone, Copy)]
 pub enum Tls {
-    /// With any.
+    /// With any. That it was verified is taken for granted where the proxy tells nothing of it.
     Any,
     /// With one of this common name.
     Named(CommonName),
 }
 
 impl Tls {
-    /// Whether a device may come with a certificate of which the proxy told this name, or none.
-    pub fn admits(&self, name: Option<&CommonName>) -> bool
-        ensures { result ≡ specs.admits self.now (option_copied name.entry) }
+    /// Whether a device may come with a certificate of which the proxy told this.
+    pub fn admits(&self, certificate: &Certificate) -> bool
+        ensures { result ≡ specs.admits self.now certificate.now }
     {
-        match (self, name) {
-            (Tls::Any, _) => true,
-            (Tls::Named(wanted), Some(name)) => wanted.is(name),
-            (Tls::Named(_), None) => false,
+        match (self, certificate) {
+            (_, Certificate::Unverified) => false,
+            (Tls::Any, Certificate::NotTold | Certificate::Verified(_)) => true,
+            (Tls::Named(wanted), Certificate::Verified(Some(name))) => wanted.is(name),
+            (Tls::Named(_), Certificate::NotTold | Certificate::Verified(None)) => false,
         }
     }
 }
@@ -63,6 +70,8 @@ pub struct Device {
     pub secret: Option<Secret>,
     /// With which certificates it may come inside TLS, if it may.
     pub tls: Option<Tls>,
+    /// The line that says so, if one does.
+    pub tls_line: Option<usize>,
     /// How many connections each of its addresses may have at once, if the text says it.
     pub connections: Option<u32>,
 }
@@ -75,6 +84,7 @@ impl Drop for Device {
             places: _,
             secret: _,
             tls: _,
+            tls_line: _,
             connections: _,
         } = self;
     }

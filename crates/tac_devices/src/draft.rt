@@ -38,8 +38,10 @@ pub(crate) struct Entry {
     pub(crate) line: usize,
     pub(crate) places: Sequence<Place>,
     pub(crate) key: Option<KeyLine>,
-    pub(crate) old_key: Option<KeyDoor>,
+    pub(crate) old_key: Option<KeyLine>,
     pub(crate) tls: Option<Tls>,
+    // the line that says it
+    pub(crate) tls_line: Option<usize>,
     pub(crate) connections: Option<u32>,
 }
 
@@ -53,6 +55,7 @@ impl Drop for Entry {
             key: _,
             old_key: _,
             tls: _,
+            tls_line: _,
             connections: _,
         } = self;
     }
@@ -124,6 +127,7 @@ impl Entry {
           key = None;
           old_key = None;
           tls = None;
+          tls_line = None;
           connections = None;
         } }
     {
@@ -134,6 +138,7 @@ impl Entry {
             key: None,
             old_key: None,
             tls: None,
+            tls_line: None,
             connections: None,
         }
     }
@@ -143,7 +148,7 @@ impl Entry {
         ensures { LineMakes result self.now (texts.keys_apart self.now) }
     {
         match (&self.key, &self.old_key) {
-            (Some(line), Some(old_key)) if line.key.as_slice() == old_key.as_slice() => {
+            (Some(key), Some(old_key)) if key.key.as_slice() == old_key.key.as_slice() => {
                 Err(LineFault::Refused(DevicesRefusal::Repeated))
             }
             _ => Ok(()),
@@ -164,8 +169,8 @@ impl Entry {
         self.check_keys()
     }
 
-    fn set_old_key(&mut self, old_key: Option<Key>) -> Result<(), LineFault>
-        ensures { LineMakes result self.new (texts.with_old_key old_key self.old) }
+    fn set_old_key(&mut self, line: usize, old_key: Option<Key>) -> Result<(), LineFault>
+        ensures { LineMakes result self.new (texts.with_old_key line old_key self.old) }
     {
         let Some(old_key) = old_key else {
             return Err(LineFault::Refused(DevicesRefusal::BadValue));
@@ -173,12 +178,13 @@ impl Entry {
         if self.old_key.is_some() {
             return Err(LineFault::Refused(DevicesRefusal::Repeated));
         }
-        self.old_key = Some(KeyDoor::new(old_key));
+        let key = KeyDoor::new(old_key);
+        self.old_key = Some(KeyLine { key, line });
         self.check_keys()
     }
 
-    fn set_tls(&mut self, tls: Option<Tls>) -> Result<(), LineFault>
-        ensures { LineMakes result self.new (texts.with_tls tls self.old) }
+    fn set_tls(&mut self, line: usize, tls: Option<Tls>) -> Result<(), LineFault>
+        ensures { LineMakes result self.new (texts.with_tls line tls self.old) }
     {
         let Some(tls) = tls else {
             return Err(LineFault::Refused(DevicesRefusal::BadValue));
@@ -187,6 +193,7 @@ impl Entry {
             return Err(LineFault::Refused(DevicesRefusal::Repeated));
         }
         self.tls = Some(tls);
+        self.tls_line = Some(line);
         Ok(())
     }
 
@@ -266,22 +273,22 @@ impl Draft {
         }
     }
 
-    fn set_old_key(&mut self, old_key: Option<Key>) -> Result<(), LineFault>
+    fn set_old_key(&mut self, line: usize, old_key: Option<Key>) -> Result<(), LineFault>
         ensures { LineMakes result self.new
-            (texts.with_present (texts.with_old_key old_key) self.old) }
+            (texts.with_present (texts.with_old_key line old_key) self.old) }
     {
         match &mut self.present {
-            Some(entry) => entry.set_old_key(old_key),
+            Some(entry) => entry.set_old_key(line, old_key),
             None => Err(LineFault::Refused(DevicesRefusal::NoDevice)),
         }
     }
 
-    fn set_tls(&mut self, tls: Option<Tls>) -> Result<(), LineFault>
+    fn set_tls(&mut self, line: usize, tls: Option<Tls>) -> Result<(), LineFault>
         ensures { LineMakes result self.new
-            (texts.with_present (texts.with_tls tls) self.old) }
+            (texts.with_present (texts.with_tls line tls) self.old) }
     {
         match &mut self.present {
-            Some(entry) => entry.set_tls(tls),
+            Some(entry) => entry.set_tls(line, tls),
             None => Err(LineFault::Refused(DevicesRefusal::NoDevice)),
         }
     }
@@ -307,8 +314,8 @@ impl Draft {
             Said::Device(Some(name)) => self.begin(alloc, line, name),
             Said::At(prefix) => self.place(line, prefix),
             Said::Key(key) => self.set_key(line, key),
-            Said::OldKey(old_key) => self.set_old_key(old_key),
-            Said::Tls(tls) => self.set_tls(tls),
+            Said::OldKey(old_key) => self.set_old_key(line, old_key),
+            Said::Tls(tls) => self.set_tls(line, tls),
             Said::Connections(connections) => self.set_connections(connections),
         }
     }
@@ -358,17 +365,29 @@ fn check(entries: &[Entry]) -> Result<(), DevicesFault>
 }
 
 impl KeyLine {
-    // The secret of this key, and of the old one beside it.
-    fn into_secret(self, old: Option<KeyDoor>) -> Secret
-        ensures { result ≡ record {
-          keys = record { present = self.key; old = old };
-          line = self.line;
-        } }
+    fn into_parts(self) -> (KeyDoor, usize)
+        ensures { result ≡ (self.key, self.line) }
     {
         let KeyLine { key, line } = self;
+        (key, line)
+    }
+
+    // The secret of this key, and of the old one beside it.
+    fn into_secret(self, old: Option<KeyLine>) -> Secret
+        ensures { result ≡ texts.secret_by self old }
+    {
+        let (present, line) = self.into_parts();
+        let (old, old_line) = match old {
+            Some(old) => {
+                let (key, line) = old.into_parts();
+                (Some(key), Some(line))
+            }
+            None => (None, None),
+        };
         Secret {
-            keys: Keys { present: key, old },
+            keys: Keys { present, old },
             line,
+            old_line,
         }
     }
 }
@@ -385,6 +404,7 @@ impl Entry {
             key,
             old_key,
             tls,
+            tls_line,
             connections,
         } = self;
         let secret = match key {
@@ -396,6 +416,7 @@ impl Entry {
             places,
             secret,
             tls,
+            tls_line,
             connections,
         }
     }

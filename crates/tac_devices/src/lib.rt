@@ -3,6 +3,7 @@
 
 mod device;
 mod devices;
+mod doubt;
 mod draft;
 mod fault;
 mod known;
@@ -15,6 +16,7 @@ mod said;
 
 pub use device::{Device, Place, Secret, Tls};
 pub use devices::{Devices, Spot};
+pub use doubt::KeyDoubt;
 pub use fault::{DevicesFault, DevicesRefusal};
 pub use listing::{Asked, ListingEnd, fault_line, list_devices, sizes_line};
 pub use prefix::Prefix;

@@ -1,12 +1,13 @@
 -- What the first so many bytes of version 2 are judged to be.
 use Rattle.std.proofs.Common.{◌≡◌, ◌⊎◌, ℕ, ◌+◌, ◌-◌, ◌<◌, ◌≤◌, Bool, true, false, not, ◌&&◌, ◌||◌, cond, List, length, take, drop, Option, Some, None, refl, sym, ap, ◌∙◌, arith, inl, inr, lt-ltb, le-ltb}
 use Rattle.std.specs.Prelude.{nat_lt}
-use Rattle.std.specs.declared.net.socket_addr.SocketAddr.{SocketAddr}
 use Rattle.std.proofs.lemmas.Bool.{cases_lt, ltb-true, ltb-false}
 use Rattle.std.proofs.lemmas.List.{get_or-take, drop-take, take-take}
 use Rattle.tac_proxy.specs.Binary.{most_bytes, addresses_size, told, found, command_of, kind_of, size_of, carried, is_command, is_kind, is_wrong_size, is_refused, judged, binary}
 use Rattle.tac_proxy.specs.declared.binary.Transport.{Transport}
+use Rattle.tac_proxy.specs.declared.told.Certificate.{Certificate}
 use Rattle.tac_proxy.specs.declared.told.Header.{Header}
+use Rattle.tac_proxy.specs.declared.told.Source.{Source}
 use Rattle.tac_proxy.specs.declared.told.Proxy.{Proxy}
 use Rattle.tac_proxy.specs.declared.told.Proxy.TheVariants.{Need, Fault, Found}
 
@@ -202,9 +203,9 @@ steps_found false false true d p h e = absurd cc
 steps_found false false false true p h e = absurd cc
 steps_found false false false false p h e = (refl, refl, refl, refl, e)
 
-found_used : (used : ℕ) (source : Option SocketAddr) (name : Option (Option (List ℕ))) (h : Header) → found used source name ≡ Found h → h.used ≡ used
+found_used : (used : ℕ) (source : Source) (certificate : Option Certificate) (h : Header) → found used source certificate ≡ Found h → h.used ≡ used
 found_used used source None h e = absurd cc
-found_used used source (Some name) h e = cc
+found_used used source (Some certificate) h e = cc
 
 whole_used : (w : List ℕ) (h : Header) → whole_of w ≡ Found h → h.used ≡ 16 + size_of w
 unfolding whole_of
@@ -262,9 +263,9 @@ steps_need false false true d p other e = absurd cc
 steps_need false false false true p other e = inr (refl, refl)
 steps_need false false false false p other e = absurd (other e)
 
-found_no_need : (used : ℕ) (source : Option SocketAddr) (name : Option (Option (List ℕ))) → found used source name ≡ Need → ⊥
+found_no_need : (used : ℕ) (source : Source) (certificate : Option Certificate) → found used source certificate ≡ Need → ⊥
 found_no_need used source None e = cc
-found_no_need used source (Some name) e = cc
+found_no_need used source (Some certificate) e = cc
 
 whole_no_need : (w : List ℕ) → whole_of w ≡ Need → ⊥
 unfolding whole_of

@@ -12,6 +12,8 @@ use Rattle.std.proofs.lemmas.List.{get_or-take, take-take, take-append-drop, len
 use Rattle.tac_proxy.specs.Line.{socket_of, family_word, TellsCaller, TellsNone, Tells, HasEnd, EndsAt, BeginsWithLine, line_header, is_begun, MayBecomeLine, ReadsLine}
 use Rattle.tac_proxy.specs.Words.{SixWords, WordsTell}
 use Rattle.tac_proxy.specs.declared.told.Header.{Header}
+use Rattle.tac_proxy.specs.declared.told.Source.{Source}
+use Rattle.tac_proxy.specs.declared.told.Source.TheVariants.{Local, Unknown, Caller}
 use Rattle.tac_proxy.specs.declared.told.Proxy.{Proxy}
 use Rattle.tac_proxy.specs.declared.told.Proxy.TheVariants.{Need, Fault, Found}
 use Rattle.tac_proxy.proofs.FrontFacts.{agrees-take, read-take, read-within}
@@ -45,11 +47,14 @@ caller_or_none line a h k =
       | inr (rest, e) ↦ let u : get_or line 6 0 ≡ 85 = ap (λ (l : List ℕ). get_or l 6 0) e in absurd (omega arith)
     ]
 
-tells_once : (line : List ℕ) (a b : Option SocketAddr) → Tells line a → Tells line b → a ≡ b
-tells_once line (Some a) (Some b) h k = ap (λ (x : SocketAddr). Some x) (caller_once line a b h k)
-tells_once line (Some a) None h k = absurd (caller_or_none line a h k)
-tells_once line None (Some b) h k = absurd (caller_or_none line b k h)
-tells_once line None None h k = refl
+tells_once : (line : List ℕ) (a b : Source) → Tells line a → Tells line b → a ≡ b
+tells_once line (Caller a) (Caller b) h k = ap (λ (x : SocketAddr). Caller x) (caller_once line a b h k)
+tells_once line (Caller a) Unknown h k = absurd (caller_or_none line a h k)
+tells_once line Unknown (Caller b) h k = absurd (caller_or_none line b k h)
+tells_once line Unknown Unknown h k = refl
+tells_once line Local b h k = absurd h
+tells_once line (Caller a) Local h k = absurd k
+tells_once line Unknown Local h k = absurd k
 
 -- ---- a line ends once
 
@@ -81,10 +86,11 @@ caller_begun : (ip : IpAddr) (s t a b rest : List ℕ) → is_begun ((codes "PRO
 caller_begun (Ip.V4 a) s t p q rest = refl
 caller_begun (Ip.V6 a) s t p q rest = refl
 
-tells_begun : (line rest : List ℕ) (source : Option SocketAddr) → Tells line source → is_begun (line ++ rest) ≡ true
-tells_begun line rest (Some caller) h = ap (λ (l : List ℕ). is_begun (l ++ rest)) h.spelled ∙ caller_begun h.source _ _ _ _ rest
-tells_begun line rest None (inl e) = ap (λ (l : List ℕ). is_begun (l ++ rest)) e
-tells_begun line rest None (inr (more, e)) = ap (λ (l : List ℕ). is_begun (l ++ rest)) e
+tells_begun : (line rest : List ℕ) (source : Source) → Tells line source → is_begun (line ++ rest) ≡ true
+tells_begun line rest (Caller caller) h = ap (λ (l : List ℕ). is_begun (l ++ rest)) h.spelled ∙ caller_begun h.source _ _ _ _ rest
+tells_begun line rest Unknown (inl e) = ap (λ (l : List ℕ). is_begun (l ++ rest)) e
+tells_begun line rest Unknown (inr (more, e)) = ap (λ (l : List ℕ). is_begun (l ++ rest)) e
+tells_begun line rest Local h = absurd h
 
 or_each : (a b c a' b' c' : Bool) → (a ≡ true → a' ≡ true) → (b ≡ true → b' ≡ true) → (c ≡ true → c' ≡ true) → ((a || b) || c) ≡ true → ((a' || b') || c') ≡ true
 or_each true b c a' b' c' f g h e = rw (f refl) refl
@@ -123,7 +129,7 @@ begins-take n w header le h =
           };
       short = h.short;
       tells = subst (λ (l : List ℕ). Tells l header.source) (sym (take-take h.size n w (omega arith))) h.tells;
-      no_name = h.no_name;
+      no_certificate = h.no_certificate;
       used = h.used;
     }
 
@@ -139,7 +145,7 @@ begins-untake n w header h =
           };
       short = h.short;
       tells = subst (λ (l : List ℕ). Tells l header.source) (take-take h.size n w (omega (arith, here.0))) h.tells;
-      no_name = h.no_name;
+      no_certificate = h.no_certificate;
       used = h.used;
     }
 
@@ -161,14 +167,14 @@ may-take n w h = record {
 
 -- ---- what is read
 
-header_once : (a b : Header) → a.source ≡ b.source → a.name ≡ b.name → a.used ≡ b.used → a ≡ b
-header_once a b e f g = λ i. record { source = e i; name = f i; used = g i }
+header_once : (a b : Header) → a.source ≡ b.source → a.certificate ≡ b.certificate → a.used ≡ b.used → a ≡ b
+header_once a b e f g = λ i. record { source = e i; certificate = f i; used = g i }
 
 begins_once : (w : List ℕ) (a b : Header) → BeginsWithLine w a → BeginsWithLine w b → a ≡ b
 begins_once w a b h k =
     let size = ends_once w h.size k.size h.ends k.ends in
     let told = subst (λ (n : ℕ). Tells (take n w) a.source) size h.tells in
-    header_once a b (tells_once _ _ _ told k.tells) (h.no_name ∙ sym k.no_name) (h.used ∙ ap (λ (n : ℕ). n + 2) size ∙ sym k.used)
+    header_once a b (tells_once _ _ _ told k.tells) (h.no_certificate ∙ sym k.no_certificate) (h.used ∙ ap (λ (n : ℕ). n + 2) size ∙ sym k.used)
 
 pub line_once : (w : List ℕ) (a b : Proxy) → ReadsLine w a → ReadsLine w b → a ≡ b
 line_once w (Found a) (Found b) h k = ap Found (begins_once w a b h k)
@@ -242,6 +248,6 @@ line_written line rest caller h short = record {
   };
   short = short;
   tells = subst (λ (l : List ℕ). TellsCaller l caller) (sym (take_at line (13 ∷ 10 ∷ rest) (length line) refl)) h;
-  no_name = refl;
+  no_certificate = refl;
   used = refl;
 }

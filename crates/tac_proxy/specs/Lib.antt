@@ -3,6 +3,7 @@ pub mod Front
 pub mod Line
 pub mod Words
 pub mod Vectors
+pub mod Certificate
 pub mod Binary
 pub mod Written
 pub mod Proxy

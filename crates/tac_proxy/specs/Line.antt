@@ -1,6 +1,6 @@
 -- Version 1: a line ("The PROXY protocol, versions 1 & 2", section 2.1).
 use Rattle.std.specs.Prelude.{◌≡◌, ◌⊎◌, ℕ, ◌+◌, ◌^◌, ◌<◌, ◌≤◌, Bool, ◌||◌, List, ◌++◌, length, take}
-use Rattle.std.specs.Prelude.{slice_index, codes, IsTrue, Option, Some, None}
+use Rattle.std.specs.Prelude.{slice_index, codes, IsTrue}
 use Rattle.std.specs.Fmt.{decimal}
 use Rattle.std.specs.Net.Grammar.{IsIpText}
 use Rattle.std.specs.declared.net.ip_addr.IpAddr.{IpAddr}
@@ -8,9 +8,12 @@ use Rattle.std.specs.declared.net.ip_addr.IpAddr.TheVariants as Ip
 use Rattle.std.specs.declared.net.socket_addr.SocketAddr.{SocketAddr}
 use Rattle.std.specs.declared.net.socket_addr.SocketAddr.TheVariants as Socket
 use Rattle.tac_proxy.specs.Front.{agrees}
+use Rattle.tac_proxy.specs.declared.told.Certificate.TheVariants.{NotTold}
 use Rattle.tac_proxy.specs.declared.told.Header.{Header}
 use Rattle.tac_proxy.specs.declared.told.Proxy.{Proxy}
 use Rattle.tac_proxy.specs.declared.told.Proxy.TheVariants.{Need, Fault, Found}
+use Rattle.tac_proxy.specs.declared.told.Source.{Source}
+use Rattle.tac_proxy.specs.declared.told.Source.TheVariants.{Local, Unknown, Caller}
 
 -- an address and a port
 abbrev pub socket_of : IpAddr → ℕ → SocketAddr
@@ -50,10 +53,11 @@ abbrev pub TellsNone : List ℕ → Type 0
 TellsNone line =
     (line ≡ codes "PROXY UNKNOWN") ⊎ ((rest : List ℕ) × (line ≡ codes "PROXY UNKNOWN " ++ rest))
 
--- what a line tells
-abbrev pub Tells : List ℕ → Option SocketAddr → Type 0
-Tells line (Some caller) = TellsCaller line caller
-Tells line None = TellsNone line
+-- what a line tells; none says that the proxy calls on its own
+abbrev pub Tells : List ℕ → Source → Type 0
+Tells line (Caller caller) = TellsCaller line caller
+Tells line Unknown = TellsNone line
+Tells line Local = ⊥
 
 -- CR LF stands there
 pub record HasEnd (bytes : List ℕ) (at : ℕ) : Type 0 where
@@ -71,12 +75,16 @@ pub record BeginsWithLine (bytes : List ℕ) (header : Header) : Type 0 where
   pub ends : EndsAt bytes size
   pub short : size + 2 ≤ 107
   pub tells : Tells (take size bytes) header.source
-  pub no_name : header.name ≡ None
+  pub no_certificate : header.certificate ≡ NotTold
   pub used : header.used ≡ size + 2
 
 -- what is told of a line that tells a caller, and that CR LF follows
 abbrev pub line_header : List ℕ → SocketAddr → Header
-line_header line caller = record { source = Some caller; name = None; used = length line + 2 }
+line_header line caller = record {
+  source = Caller caller;
+  certificate = NotTold;
+  used = length line + 2;
+}
 
 -- whether the bytes may be the beginning of a line, as far as there are any
 abbrev pub is_begun : List ℕ → Bool

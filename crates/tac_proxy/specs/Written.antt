@@ -1,7 +1,7 @@
 -- How a proxy writes version 2 for a caller by TCP ("The PROXY protocol, versions 1 & 2", sections
 -- 2.2 and 2.2.1).
 use Rattle.std.specs.Prelude.{◌≡◌, ℕ, ◌+◌, ◌/◌, ◌%◌, ◌≤◌, List, [], ◌∷◌, ◌++◌, length, flat_map}
-use Rattle.std.specs.Prelude.{Option, Some, None}
+use Rattle.std.specs.Prelude.{Option, Some}
 use Rattle.std.specs.Option.{option_map_or}
 use Rattle.std.specs.Net.Addr.{ipv4_octets, ipv6_octets, MatchIp, IsIpv4Addr, IsIpv6Addr}
 use Rattle.std.specs.declared.net.ip_addr.IpAddr.{IpAddr}
@@ -9,8 +9,11 @@ use Rattle.std.specs.declared.net.ip_addr.IpAddr.TheVariants as Ip
 use Rattle.tac_proxy.specs.Line.{socket_of, family_word}
 use Rattle.tac_proxy.specs.Vectors.{Vector, vector_bytes, value_among}
 use Rattle.tac_proxy.specs.Binary.{signature, proxy_command, tcp_over_ipv4, tcp_over_ipv6}
-use Rattle.tac_proxy.specs.Binary.{type_ssl, ssl_name}
+use Rattle.tac_proxy.specs.Certificate.{type_ssl, ssl_certificate}
+use Rattle.tac_proxy.specs.declared.told.Certificate.{Certificate}
+use Rattle.tac_proxy.specs.declared.told.Certificate.TheVariants.{NotTold}
 use Rattle.tac_proxy.specs.declared.told.Header.{Header}
+use Rattle.tac_proxy.specs.declared.told.Source.TheVariants.{Caller}
 
 -- what a proxy tells: who called whom, and vectors
 pub record Call : Type 0 where
@@ -55,14 +58,15 @@ pub record CanBeWritten (call : Call) : Type 0 where
   pub target : MatchIp call.target IsIpv4Addr IsIpv6Addr
   pub short : length (call_bytes call) ≤ 520
 
--- the name in the vectors; nothing where its own lengths don't add up
-abbrev pub name_told : Call → Option (Option (List ℕ))
-name_told call = option_map_or ssl_name (value_among type_ssl call.vectors) (Some None)
+-- what the vectors tell of the certificate; nothing where its own lengths don't add up
+abbrev pub certificate_told : Call → Option Certificate
+certificate_told call =
+    option_map_or ssl_certificate (value_among type_ssl call.vectors) (Some NotTold)
 
 -- the header that tells this
-abbrev pub call_header : Call → Option (List ℕ) → Header
-call_header call name = record {
-  source = Some (socket_of call.source call.source_port);
-  name = name;
+abbrev pub call_header : Call → Certificate → Header
+call_header call certificate = record {
+  source = Caller (socket_of call.source call.source_port);
+  certificate = certificate;
   used = 16 + length (call_bytes call);
 }

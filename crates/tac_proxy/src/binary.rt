@@ -1,13 +1,15 @@
 //! Version 2 of the header: sixteen bytes, and as many more as they say.
 
-ghost use Rattle.std.specs.Prelude.{◌≡◌, ◌≤◌, ◌+◌, ◌*◌, ◌||◌, nat_lt, length, Some};
+ghost use Rattle.std.specs.Prelude.{◌≡◌, ◌≤◌, ◌+◌, ◌*◌, ◌||◌, nat_lt, length};
 ghost use Rattle.std.specs.Option.{option_copied};
 ghost use Rattle.tac_proxy.specs.Binary as binary;
+ghost use Rattle.tac_proxy.specs.Certificate as certificates;
 ghost use Rattle.tac_proxy.specs.Name as names;
 ghost use Rattle.tac_proxy.specs.declared.binary.Transport.TheVariants.{Tcp4, Tcp6};
+ghost use Rattle.tac_proxy.specs.declared.told.Source.TheVariants.{Caller};
 
 use crate::name::CommonName;
-use crate::told::{Header, Proxy};
+use crate::told::{Certificate, Header, Proxy, Source};
 use crate::vectors::first_value;
 use std::net::{Ipv4Addr, Ipv6Addr, SocketAddr, SocketAddrV4, SocketAddrV6};
 
@@ -34,17 +36,24 @@ const TYPE_SSL: u8 = 0x20;
 
 const SUBTYPE_SSL_CN: u8 = 0x22;
 
-// The flags of a client that showed a certificate, in this session or in this connection.
-const CLIENT_CERT: u8 = 0x06;
+// The flags of a client that came by TLS, and that showed a certificate: on this connection, or
+// before on another one of the same session.
+const CLIENT_SSL: u8 = 0x01;
 
-// What a header carries that tells of a caller.
+const CLIENT_CERT_CONN: u8 = 0x02;
+
+const CLIENT_CERT_SESS: u8 = 0x04;
+
+// What a header says that it was carried over.
 #[derive(Clone, Copy)]
 pub(crate) enum Transport {
+    // None: the proxy calls on its own.
+    Local,
     // TCP over IPv4.
     Tcp4,
     // TCP over IPv6.
     Tcp6,
-    // Nothing.
+    // Another, which tells of no caller.
     Other,
 }
 
@@ -64,7 +73,7 @@ fn transport_of(command: u8, kind: u8) -> Transport
     ensures { result ≡ binary.transport_of command kind }
 {
     if command != PROXY {
-        return Transport::Other;
+        return Transport::Local;
     }
     match kind {
         TCP_OVER_IPV4 => Transport::Tcp4,
@@ -80,7 +89,7 @@ fn addresses_size(transport: Transport) -> usize
     match transport {
         Transport::Tcp4 => 12,
         Transport::Tcp6 => 36,
-        Transport::Other => 0,
+        Transport::Local | Transport::Other => 0,
     }
 }
 
@@ -100,22 +109,35 @@ fn kept_name(name: &[u8]) -> Option<CommonName>
     Some(CommonName::new(name))
 }
 
-// The name, if the client showed a certificate that was verified.
-fn shown_name(client: u8, verify: u32, name: Option<&[u8]>) -> Option<CommonName>
-    ensures { result ≡ binary.shown_name client verify (option_copied name.entry) }
+// Whether the client showed a certificate.
+fn has_shown(client: u8) -> bool
+    ensures { result ≡ certificates.has_shown client }
 {
-    if client & CLIENT_CERT == 0 || verify != 0 {
-        return None;
+    client & CLIENT_CERT_CONN != 0 || client & CLIENT_CERT_SESS != 0
+}
+
+// Whether it came by TLS, and showed a certificate that was verified.
+fn is_verified(client: u8, verify: u32) -> bool
+    ensures { result ≡ certificates.is_verified client verify }
+{
+    client & CLIENT_SSL != 0 && has_shown(client) && verify == 0
+}
+
+fn certificate_of(client: u8, verify: u32, name: Option<&[u8]>) -> Certificate
+    ensures { result ≡ certificates.certificate_of client verify (option_copied name.entry) }
+{
+    if !is_verified(client, verify) {
+        return Certificate::Unverified;
     }
     match name {
-        Some(name) => kept_name(name),
-        None => None,
+        Some(name) => Certificate::Verified(kept_name(name)),
+        None => Certificate::Verified(None),
     }
 }
 
-// The name in the value of the vector about TLS; nothing where the lengths don't add up.
-fn ssl_name(value: &[u8]) -> Option<Option<CommonName>>
-    ensures { result ≡ binary.ssl_name value.now }
+// What the value of the vector about TLS tells; nothing where the lengths don't add up.
+fn ssl_certificate(value: &[u8]) -> Option<Certificate>
+    ensures { result ≡ certificates.ssl_certificate value.now }
 {
     let [client, a, b, c, d, inner @ ..] = value else {
         return None;
@@ -124,33 +146,37 @@ fn ssl_name(value: &[u8]) -> Option<Option<CommonName>>
     let Some(name) = first_value(inner, SUBTYPE_SSL_CN) else {
         return None;
     };
-    Some(shown_name(*client, verify, name))
+    Some(certificate_of(*client, verify, name))
 }
 
-// The name in the vectors after the addresses; nothing where the lengths don't add up.
-fn name_in(bytes: &[u8]) -> Option<Option<CommonName>>
-    ensures { result ≡ binary.name_in bytes.now }
+// What the vectors after the addresses tell; nothing where the lengths don't add up.
+fn certificate_in(bytes: &[u8]) -> Option<Certificate>
+    ensures { result ≡ certificates.certificate_in bytes.now }
 {
     match first_value(bytes, TYPE_SSL) {
         None => None,
-        Some(None) => Some(None),
-        Some(Some(value)) => ssl_name(value),
+        Some(None) => Some(Certificate::NotTold),
+        Some(Some(value)) => ssl_certificate(value),
     }
 }
 
 // The header that tells this, unless the lengths don't add up.
-fn found(used: usize, source: Option<SocketAddr>, name: Option<Option<CommonName>>) -> Proxy
-    ensures { result ≡ binary.found used source name }
+fn found(used: usize, source: Source, certificate: Option<Certificate>) -> Proxy
+    ensures { result ≡ binary.found used source certificate }
 {
-    match name {
+    match certificate {
         None => Proxy::Fault,
-        Some(name) => Proxy::Found(Header { source, name, used }),
+        Some(certificate) => Proxy::Found(Header {
+            source,
+            certificate,
+            used,
+        }),
     }
 }
 
 fn ipv4_source(bytes: &[u8]) -> SocketAddr
     requires { 12 ≤ length bytes.now }
-    ensures { Some result ≡ binary.source_in Tcp4 bytes.now }
+    ensures { Caller result ≡ binary.source_in Tcp4 bytes.now }
 {
     let ip = Ipv4Addr::new(bytes[0], bytes[1], bytes[2], bytes[3]);
     SocketAddr::V4(SocketAddrV4::new(ip, number(bytes[8], bytes[9])))
@@ -158,7 +184,7 @@ fn ipv4_source(bytes: &[u8]) -> SocketAddr
 
 fn ipv6_source(bytes: &[u8]) -> SocketAddr
     requires { 36 ≤ length bytes.now }
-    ensures { Some result ≡ binary.source_in Tcp6 bytes.now }
+    ensures { Caller result ≡ binary.source_in Tcp6 bytes.now }
 {
     let mut octets = [0; 16];
     octets.copy_from_slice(&bytes[..16]);
@@ -166,14 +192,15 @@ fn ipv6_source(bytes: &[u8]) -> SocketAddr
     SocketAddr::V6(SocketAddrV6::new(ip, number(bytes[32], bytes[33]), 0, 0))
 }
 
-fn source_in(transport: Transport, bytes: &[u8]) -> Option<SocketAddr>
+fn source_in(transport: Transport, bytes: &[u8]) -> Source
     requires { binary.addresses_size transport ≤ length bytes.now }
     ensures { result ≡ binary.source_in transport bytes.now }
 {
     match transport {
-        Transport::Tcp4 => Some(ipv4_source(bytes)),
-        Transport::Tcp6 => Some(ipv6_source(bytes)),
-        Transport::Other => None,
+        Transport::Local => Source::Local,
+        Transport::Tcp4 => Source::Caller(ipv4_source(bytes)),
+        Transport::Tcp6 => Source::Caller(ipv6_source(bytes)),
+        Transport::Other => Source::Unknown,
     }
 }
 
@@ -184,7 +211,7 @@ fn vectors_in(transport: Transport, bytes: &[u8]) -> &[u8]
     match transport {
         Transport::Tcp4 => &bytes[12..],
         Transport::Tcp6 => &bytes[36..],
-        Transport::Other => &[],
+        Transport::Local | Transport::Other => &[],
     }
 }
 
@@ -194,7 +221,7 @@ fn told(used: usize, transport: Transport, bytes: &[u8]) -> Proxy
     ensures { result ≡ binary.told used transport bytes.now }
 {
     let source = source_in(transport, bytes);
-    found(used, source, name_in(vectors_in(transport, bytes)))
+    found(used, source, certificate_in(vectors_in(transport, bytes)))
 }
 
 // Whether one of the bytes can't stand there.

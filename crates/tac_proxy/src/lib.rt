@@ -12,4 +12,4 @@ mod vectors;
 
 pub use name::CommonName;
 pub use reading::read_proxy;
-pub use told::{Header, Proxy};
+pub use told::{Certificate, Header, Proxy, Source};

@@ -1,13 +1,14 @@
 //! Version 1 of the header: a line.
 
-ghost use Rattle.std.specs.Prelude.{◌≡◌, ◌↔◌, ◌≤◌, ◌+◌, ℕ, Option, length, IsTrue, IfSome, IfNone};
+ghost use Rattle.std.specs.Prelude.{◌≡◌, ◌↔◌, ◌≤◌, ◌+◌, ℕ, length, IsTrue, IfSome, IfNone};
 ghost use Rattle.std.specs.Option.{option_map};
 ghost use Rattle.std.specs.declared.net.socket_addr.SocketAddr.{SocketAddr as SocketValue};
 ghost use Rattle.tac_proxy.specs.Line as line_specs;
 ghost use Rattle.tac_proxy.specs.Words as line_words;
+ghost use Rattle.tac_proxy.specs.declared.told.Source.{Source as SourceValue};
 
 use crate::front::agrees;
-use crate::told::{Header, Proxy};
+use crate::told::{Certificate, Header, Proxy, Source};
 use basics::{read_number, split_once};
 use std::net::{IpAddr, SocketAddr};
 
@@ -147,16 +148,16 @@ fn is_unknown(line: &[u8]) -> bool
 }
 
 // What a line tells, if it tells anything.
-fn told_by(line: &[u8]) -> Option<Option<SocketAddr>>
+fn told_by(line: &[u8]) -> Option<Source>
     ensures found { IfSome result (line_specs.Tells line.now) }
-    ensures none { IfNone result ((source : Option SocketValue) →
+    ensures none { IfNone result ((source : SourceValue) →
         ¬ (line_specs.Tells line.now source)) }
 {
     if is_unknown(line) {
-        return Some(None);
+        return Some(Source::Unknown);
     }
     match read_caller(line) {
-        Some(caller) => Some(Some(caller)),
+        Some(caller) => Some(Source::Caller(caller)),
         None => None,
     }
 }
@@ -186,7 +187,7 @@ pub(crate) fn read_line(bytes: &[u8]) -> Proxy
     match told_by(&bytes[..size]) {
         Some(source) => Proxy::Found(Header {
             source,
-            name: None,
+            certificate: Certificate::NotTold,
             used: size + 2,
         }),
         None => Proxy::Fault,

@@ -1,11 +1,13 @@
 //! Reading the header.
 
-ghost use Rattle.std.specs.Prelude.{◌≡◌, ◌<◌, ◌≤◌, ◌+◌, ◌∷◌, ◌++◌, ℕ, List, length, Option, Some};
+ghost use Rattle.std.specs.Prelude.{◌≡◌, ◌<◌, ◌≤◌, ◌+◌, ◌∷◌, ◌++◌, ℕ, List, length, Some};
 ghost use Rattle.std.specs.declared.net.socket_addr.SocketAddr.{SocketAddr as SocketValue};
 ghost use Rattle.tac_proxy.specs.Line.{TellsCaller, line_header};
 ghost use Rattle.tac_proxy.specs.Vectors.{VectorsLaw};
-ghost use Rattle.tac_proxy.specs.Written.{Call, CanBeWritten, name_told, written, call_header};
+ghost use Rattle.tac_proxy.specs.Written.{Call, CanBeWritten, certificate_told, call_header};
+ghost use Rattle.tac_proxy.specs.Written.{written};
 ghost use Rattle.tac_proxy.specs.Proxy.{Reads, IfFound, IsNeed, IsWhole};
+ghost use Rattle.tac_proxy.specs.declared.told.Certificate.{Certificate as CertificateValue};
 ghost use Rattle.tac_proxy.specs.declared.told.Proxy.{Proxy as ProxyValue};
 ghost use Rattle.tac_proxy.specs.declared.told.Proxy.TheVariants.{Found};
 
@@ -43,9 +45,9 @@ pub fn read_proxy(bytes: &[u8]) -> Proxy
         length line + 2 ≤ 107 → bytes.now ≡ line ++ 13 ∷ 10 ∷ rest →
         result ≡ Found (line_header line caller) }
     // So is version 2 with a caller by TCP.
-    ensures call { (call : Call) (rest : List ℕ) (name : Option (List ℕ)) → CanBeWritten call →
-        name_told call ≡ Some name → bytes.now ≡ written call ++ rest →
-        result ≡ Found (call_header call name) }
+    ensures call { (call : Call) (rest : List ℕ) (certificate : CertificateValue) →
+        CanBeWritten call → certificate_told call ≡ Some certificate →
+        bytes.now ≡ written call ++ rest → result ≡ Found (call_header call certificate) }
     // Its vectors are those that are written one after another.
     ensures vectors { VectorsLaw }
 {

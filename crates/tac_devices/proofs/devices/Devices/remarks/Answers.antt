@@ -5,5 +5,5 @@ use Rattle.tac_devices.proofs.devices.Devices.remarks.Goals as goal
 
 pub devices-preserved : goal.devices-preserved
 devices-preserved c =
-    remarks_go c.args.self.now c.devices.place c.index-devices-place.result c.devices.found c.remark_on.new.found (remarks_of c.args.self.now)
+    remarks_go c.args.self.now c.devices.place c.index-devices-place.result c.devices.found c.add_of_device.new.found (remarks_of c.args.self.now)
     (search rules) (search rules) (search rules) c.devices.invariant

@@ -1,8 +1,8 @@
 use Rattle.std.proofs.Common.{◌≡◌, ◌++◌, take, drop}
-use Rattle.tac_devices.specs.Remarks.{remarks_after, remarks_of, secrets_of}
+use Rattle.tac_devices.specs.Remarks.{remarks_after, remarks_of}
 use Rattle.tac_devices.proofs.devices.Devices.remarks.Given as goal
 
 -- the remarks so far, and then those of the rest, are all
 abbrev pub invariant-devices : goal.invariant-devices
 invariant-devices l =
-    l.found ++ remarks_after (secrets_of (take l.place l.self)) (secrets_of (drop l.place l.self)) ≡ remarks_of l.self
+    l.found ++ remarks_after (take l.place l.self) (drop l.place l.self) ≡ remarks_of l.self
