@@ -9,11 +9,15 @@ use Rattle.tac_hall_console.specs.declared.fault.OperatorFault.{OperatorFault}
 use Rattle.tac_hall_console.specs.declared.fault.OperatorFault.TheVariants as faults
 use Rattle.tac_hall_console.specs.declared.operator.Went.TheVariants.{On, Quits}
 use Rattle.tac_hall_console.specs.Commands.{ended_lines, commands, quits}
-use Rattle.tac_hall_console.specs.Operated.{typings_of, quit_of}
-use Rattle.tac_hall_console.specs.Operating.{IsRead, Scene, EndsAt, EndsWhole, Took, Listens, HasListened}
+use Rattle.tac_hall_console.specs.Operated.{typings_of, quit_of, HaveEnded}
+use Rattle.tac_hall_console.specs.Operating.{IsRead, Scene, EndsAt, Took, Listens, HasListened}
 use Rattle.tac_hall_console.proofs.LineFacts.{ended_open, commands_last, commands_quit, quits_ended}
 use Rattle.tac_hall_console.proofs.HeardFacts.{tells_before, quit_told}
 use Rattle.tac_hall_console.proofs.GoingFacts.{goes_none, goes_then, goes_more, quits_ended_now, ends_unread, ends_after_lines, ends_after_ended}
+
+-- it ends at commands that ended in LF
+abbrev EndsWhole : {J V : Type 0} → (V → Typing → V → Type 0) → Opening → Result (Unit {0}) OperatorFault → List ℕ → Scene J V → Scene J V → Type 0
+EndsWhole hears opening end input was now = (ends : EndsAt hears opening end (commands (lines_of input)) (quit_of (lines_of input)) was now) × HaveEnded input ends.answered
 
 -- of commands that ended the first were answered
 ends_whole : {J V : Type 0} {hears : V → Typing → V → Type 0} {opening : Opening} (fault : OperatorFault) (input : List ℕ) (was now : Scene J V) → IsRead (Err fault) → EndsAt hears opening (Err fault) (commands (ended_lines input)) [] was now

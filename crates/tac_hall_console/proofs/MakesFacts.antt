@@ -1,7 +1,9 @@
 -- What calls and rotations leave of the seat.
 use Rattle.std.proofs.Common.{◌≡◌, ℕ, Bool, true, false, List, [], ◌∷◌, ◌++◌, Option, inl, inr, refl, sym, ap, subst, ◌∙◌, append-nil, append_assoc}
 use Rattle.std.specs.Prelude.{MatchBool}
+use Rattle.std.proofs.lemmas.Grind.{flat_map-append}
 use Rattle.std.proofs.lemmas.List.Elements.{filter_map-append}
+use Rattle.pol_text.specs.declared.subject.Subject.{Subject}
 use Rattle.pol_edit.specs.declared.edit.Edit.{Edit}
 use Rattle.tac_console.specs.Batching.{action_of}
 use Rattle.tac_console.specs.ConsoleText.{asked_by}
@@ -15,7 +17,7 @@ use Rattle.tac_hall.specs.declared.call.Call.{Call}
 use Rattle.tac_hall.specs.declared.call.Call.TheVariants as calls
 use Rattle.tac_hall.specs.declared.entry.Made.{Made}
 use Rattle.tac_hall_console.specs.Commands.{is_rotate, is_reload, is_reload_devices}
-use Rattle.tac_hall_console.specs.Operated.{Outcome, CallsFor, ComesTo, IsRotation, IsReload, IsDevicesReload, LineComesTo, CameTo, Makes, noticed, made, rotated, refused, replied, batch_by, entry_of, rotation_of, entries_of, rotations_of}
+use Rattle.tac_hall_console.specs.Operated.{Outcome, CallsFor, ComesTo, IsRotation, IsReload, IsDevicesReload, LineComesTo, CameTo, Makes, noticed, made, rotated, refused, replied, barred, loaded, unloaded, batch_by, entries_by, rotation_of, entries_of, rotations_of, Replaces, policy_question}
 
 -- nothing was done
 makes_none : (was : Seated) → Makes was was [] []
@@ -39,7 +41,7 @@ makes_then was mid now outcomes others a b = record {
   number = b.number ∙ a.number;
   view =
       (rw a.number at b.view) ∙ ap (λ (v : List Made). v ++ entries_of others) a.view ∙ append_assoc (view_of was.number was.seen) (entries_of outcomes) (entries_of others)
-      ∙ ap (λ (v : List Made). view_of was.number was.seen ++ v) (sym (filter_map-append entry_of outcomes others));
+      ∙ ap (λ (v : List Made). view_of was.number was.seen ++ v) (sym (flat_map-append entries_by outcomes others));
   rotations =
       (rw a.number at b.rotations) ∙ ap (λ (l : List Rotated). l ++ rotations_of others) a.rotations ∙ append_assoc (history.rotations_of was.number was.seen) (rotations_of outcomes) (rotations_of others)
       ∙ ap (λ (l : List Rotated). history.rotations_of was.number was.seen ++ l) (sym (filter_map-append rotation_of outcomes others));
@@ -55,6 +57,9 @@ module _ (opening : Opening) where
   call_makes was now call (rotated rotation) came = absurd came
   call_makes was now call (refused fault) came = makes_caught was now came.1
   call_makes was now call (replied line) came = absurd came
+  call_makes was now call (barred asked) came = absurd came
+  call_makes was now call (loaded between asked entry) came = absurd came
+  call_makes was now call (unloaded asked fault) came = absurd came
 
   rotation_makes : (was now : Seated) (outcome : Outcome) → IsRotation opening was outcome now → Makes was now (entries_of (outcome ∷ [])) (rotations_of (outcome ∷ []))
   rotation_makes was now (noticed notice) came = absurd came
@@ -62,9 +67,25 @@ module _ (opening : Opening) where
   rotation_makes was now (rotated rotation) came = record { number = came.number; view = came.view ∙ sym (append-nil (view_of was.number was.seen)); rotations = came.rotations }
   rotation_makes was now (refused fault) came = makes_caught was now came.1
   rotation_makes was now (replied line) came = absurd came
+  rotation_makes was now (barred asked) came = absurd came
+  rotation_makes was now (loaded between asked entry) came = absurd came
+  rotation_makes was now (unloaded asked fault) came = absurd came
+
+  -- another policy, after the question for the present one
+  replacing_makes : (was now : Seated) (new : List Subject) (outcome : Outcome) → Replaces opening was new outcome now → Makes was now (entries_of (outcome ∷ [])) (rotations_of (outcome ∷ []))
+  replacing_makes was now new (noticed notice) came = absurd came
+  replacing_makes was now new (made asked) came = call_makes was now policy_question (made asked) came.0
+  replacing_makes was now new (rotated rotation) came = absurd came
+  replacing_makes was now new (refused fault) came = call_makes was now policy_question (refused fault) came
+  replacing_makes was now new (replied line) came = absurd came
+  replacing_makes was now new (barred asked) came = call_makes was now policy_question (made asked) came.1.0
+  replacing_makes was now new (loaded between asked entry) came =
+      makes_then was came.1 now (made asked ∷ []) (made entry ∷ []) (call_makes was came.1 policy_question (made asked) came.2.0) (call_makes came.1 now (calls.Load new) (made entry) came.5)
+  replacing_makes was now new (unloaded asked fault) came =
+      makes_then was came.1 now (made asked ∷ []) (refused fault ∷ []) (call_makes was came.1 policy_question (made asked) came.2.0) (call_makes came.1 now (calls.Load new) (refused fault) came.4)
 
   reload_makes : (was now : Seated) (outcome : Outcome) → IsReload opening was outcome now → Makes was now (entries_of (outcome ∷ [])) (rotations_of (outcome ∷ []))
-  reload_makes was now outcome (inl came) = call_makes was now (calls.Load came.0) outcome came.2
+  reload_makes was now outcome (inl came) = replacing_makes was now came.0 outcome came.2
   reload_makes was now outcome (inr none) = rw none.2 (makes_same was now none.3)
 
   devices_makes : (was now : Seated) (outcome : Outcome) → IsDevicesReload was outcome now → Makes was now (entries_of (outcome ∷ [])) (rotations_of (outcome ∷ []))

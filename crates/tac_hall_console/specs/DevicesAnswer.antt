@@ -5,6 +5,7 @@ use Rattle.tac_devices.specs.Listing.{sizes_line, fault_line}
 use Rattle.tac_devices.specs.Text.{IsText}
 use Rattle.tac_devices.specs.declared.device.Device.{Device}
 use Rattle.tac_devices.specs.declared.fault.DevicesFault.{DevicesFault}
+use Rattle.tac_hall_console.specs.Shown.{shown}
 
 -- how many devices and prefixes there are, or why the text is refused
 abbrev pub line_of_read : Result (List Device) DevicesFault → List ℕ
@@ -19,7 +20,7 @@ TellsOfText line =
 
 -- there was no text, for some reason, which this line tells
 abbrev pub unread_devices_line : List ℕ → List ℕ
-unread_devices_line why = codes "devices unread " ++ why ++ 10 ∷ []
+unread_devices_line why = codes "devices unread " ++ shown why ++ 10 ∷ []
 
 -- there is no devices' file
 abbrev pub no_devices_line : List ℕ

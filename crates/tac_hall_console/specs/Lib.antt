@@ -3,3 +3,5 @@ pub mod DevicesAnswer
 pub mod FaultText
 pub mod Operated
 pub mod Operating
+pub mod Shown
+pub mod Users

@@ -1,5 +1,5 @@
 -- What was done at the console of a shared desk (docs/CONSOLE.md, "The console of `tacd serve`").
-use Rattle.std.specs.Prelude.{◌≡◌, ◌<◌, ◌⊎◌, ℕ, List, [], ◌∷◌, ◌++◌, length, codes, false}
+use Rattle.std.specs.Prelude.{◌≡◌, ◌<◌, ◌⊎◌, ℕ, List, [], ◌∷◌, ◌++◌, length, codes, true, false}
 use Rattle.std.specs.Prelude.{Option, Some, None, Result, Ok, Err, flat_map, filter_map, MatchBool}
 use Rattle.std.specs.Prelude.{if◌then◌else◌}
 use Rattle.std.specs.Fmt.{decimal}
@@ -16,12 +16,14 @@ use Rattle.tac_console.specs.Answers.{edit_answer, batch_answer, load_answer, qu
 use Rattle.tac_console.specs.Answers.{notice_text}
 use Rattle.tac_console.specs.Batching.{action_of, batch_after}
 use Rattle.tac_console.specs.ConsoleText.{asked_by}
-use Rattle.tac_console.specs.Faults.{policy_fault}
+use Rattle.tac_console.specs.Faults.{fault_line, policy_fault}
 use Rattle.tac_console.specs.declared.batching.Action.{Action}
 use Rattle.tac_console.specs.declared.batching.Action.TheVariants as actions
 use Rattle.tac_console.specs.declared.batching.Notice.{Notice}
 use Rattle.tac_audit.specs.Witness.{AreTold}
 use Rattle.tac_audit.specs.declared.notice.Typing.{Typing}
+use Rattle.tac_desk.specs.declared.query.Query.TheVariants as queries
+use Rattle.tac_desk.specs.declared.query.Report.TheVariants as reports
 use Rattle.tac_forum.specs.History.{Opening}
 use Rattle.tac_forum.specs.History as history
 use Rattle.tac_forum.specs.Seat.{Seated, IsMade, IsRefused, IsRotated, IsUnrotated, CatchesUp}
@@ -39,30 +41,40 @@ use Rattle.tac_hall_console.specs.declared.fault.OperatorFault.{OperatorFault}
 use Rattle.tac_hall_console.specs.declared.fault.OperatorFault.TheVariants as faults
 use Rattle.tac_hall_console.specs.Commands.{ended_lines, is_rotate, is_reload, is_reload_devices}
 use Rattle.tac_hall_console.specs.Commands.{commands, quits}
+use Rattle.tac_hall_console.specs.declared.users.Turnover.{Turnover}
 use Rattle.tac_hall_console.specs.DevicesAnswer.{IsDevicesAnswer}
+use Rattle.tac_hall_console.specs.Shown.{shown}
+use Rattle.tac_hall_console.specs.Users.{turnover, shuts_out, most_are_gone, gone_line}
 
 -- ---- a line
 
 -- what came of a line: a notice without a call, or its call was made, or the present segment was
 -- ended, or the one or the other was refused; or this line was told, and the history has nothing of
--- it
+-- it. Or the policy was asked for, and another one was barred, as nobody could log in, or loaded,
+-- which changed the users so, or the call for that was refused
 pub data Outcome : Type 0 where
   noticed : Notice → Outcome
   made : Made → Outcome
   rotated : Rotated → Outcome
   refused : HallFault → Outcome
   replied : List ℕ → Outcome
+  barred : Made → Outcome
+  loaded : Turnover → Made → Made → Outcome
+  unloaded : Made → HallFault → Outcome
 
 -- what a view has of it
-abbrev pub entry_of : Outcome → Option Made
-entry_of (noticed notice) = None
-entry_of (made entry) = Some entry
-entry_of (rotated rotation) = None
-entry_of (refused fault) = None
-entry_of (replied line) = None
+abbrev pub entries_by : Outcome → List Made
+entries_by (noticed notice) = []
+entries_by (made entry) = entry ∷ []
+entries_by (rotated rotation) = []
+entries_by (refused fault) = []
+entries_by (replied line) = []
+entries_by (barred asked) = asked ∷ []
+entries_by (loaded between asked entry) = asked ∷ entry ∷ []
+entries_by (unloaded asked fault) = asked ∷ []
 
 abbrev pub entries_of : List Outcome → List Made
-entries_of outcomes = filter_map entry_of outcomes
+entries_of outcomes = flat_map entries_by outcomes
 
 -- this call was made by the seat, after whatever others did; or it was refused so, after all that
 -- others did, and the seat has seen that, and did nothing
@@ -74,6 +86,9 @@ CallsFor opening was call (rotated rotation) now = ⊥
 CallsFor opening was call (refused fault) now =
     IsRefused opening now call fault × CatchesUp was now
 CallsFor opening was call (replied line) now = ⊥
+CallsFor opening was call (barred asked) now = ⊥
+CallsFor opening was call (loaded between asked entry) now = ⊥
+CallsFor opening was call (unloaded asked fault) now = ⊥
 
 -- the edits of a batch are one call, and only a notice makes none
 abbrev pub ComesTo : Opening → Seated → Action → Outcome → Seated → Type 0
@@ -91,6 +106,9 @@ IsRotation opening was (made entry) now = ⊥
 IsRotation opening was (rotated rotation) now = IsRotated was rotation now
 IsRotation opening was (refused fault) now = IsUnrotated opening now fault × CatchesUp was now
 IsRotation opening was (replied line) now = ⊥
+IsRotation opening was (barred asked) now = ⊥
+IsRotation opening was (loaded between asked entry) now = ⊥
+IsRotation opening was (unloaded asked fault) now = ⊥
 
 -- ---- another policy
 
@@ -102,7 +120,7 @@ ReadsBy text (Err line) =
 
 -- there was no text, for some reason, which this line tells
 abbrev pub unread_line : List ℕ → List ℕ
-unread_line why = codes "unread " ++ why ++ 10 ∷ []
+unread_line why = codes "unread " ++ shown why ++ 10 ∷ []
 
 abbrev pub IsUnread : Result (List Subject) (List ℕ) → Type 0
 IsUnread (Ok policy) = ⊥
@@ -119,12 +137,47 @@ no_memory_line = console.refused (edit_faults.fault_text edit_refusals.Memory)
 abbrev pub Unloads : List ℕ → Type 0
 Unloads line = Reads (Err line) ⊎ (line ≡ no_memory_line)
 
--- the call for a policy that some text says, in the place of the present one; or there was none,
--- and nothing was done
+-- the question what the policy is, and the policy that it is answered; there is none where memory
+-- ran out
+abbrev pub policy_question : Call
+policy_question = calls.Query queries.Policy
+
+abbrev pub policy_in : CallAnswer → Option (List Subject)
+policy_in (answers.Query (Ok (reports.Policy policy))) = Some policy
+policy_in answer = None
+
+-- the seat asked what the policy is, and this is it
+abbrev pub Learns : Opening → Seated → Made → List Subject → Seated → Type 0
+Learns opening was asked old now =
+    CallsFor opening was policy_question (made asked) now × (policy_in asked.answer ≡ Some old)
+
+-- this policy was to take the place of the present one, which was asked for. A policy without a
+-- user is barred where the present one has users; any other was called for
+abbrev pub Replaces : Opening → Seated → List Subject → Outcome → Seated → Type 0
+Replaces opening was new (noticed notice) now = ⊥
+Replaces opening was new (made asked) now =
+    CallsFor opening was policy_question (made asked) now × (policy_in asked.answer ≡ None)
+Replaces opening was new (rotated rotation) now = ⊥
+Replaces opening was new (refused fault) now =
+    CallsFor opening was policy_question (refused fault) now
+Replaces opening was new (replied line) now = ⊥
+Replaces opening was new (barred asked) now =
+    (old : List Subject) × Learns opening was asked old now
+    × (shuts_out (turnover old new) ≡ true)
+Replaces opening was new (loaded between asked entry) now =
+    (old : List Subject) × (mid : Seated) × Learns opening was asked old mid
+    × (between ≡ turnover old new) × (shuts_out (turnover old new) ≡ false)
+    × CallsFor opening mid (calls.Load new) (made entry) now
+Replaces opening was new (unloaded asked fault) now =
+    (old : List Subject) × (mid : Seated) × Learns opening was asked old mid
+    × (shuts_out (turnover old new) ≡ false)
+    × CallsFor opening mid (calls.Load new) (refused fault) now
+
+-- a policy that some text says was to take the place of the present one; or there was none, and
+-- nothing was done
 abbrev pub IsReload : Opening → Seated → Outcome → Seated → Type 0
 IsReload opening was outcome now =
-    ((policy : List Subject) × Reads (Ok policy)
-    × CallsFor opening was (calls.Load policy) outcome now)
+    ((policy : List Subject) × Reads (Ok policy) × Replaces opening was policy outcome now)
     ⊎ ((line : List ℕ) × Unloads line × (outcome ≡ replied line) × (now ≡ was))
 
 -- ---- other devices
@@ -177,6 +230,19 @@ rotated_line rotation =
     codes "rotated " ++ decimal rotation.number
     ++ codes " entries " ++ decimal rotation.entries ++ 10 ∷ []
 
+-- a policy without a user isn't loaded
+abbrev pub no_user_line : List ℕ
+no_user_line = fault_line (codes "NoUser")
+
+-- what comes after the answer to a policy that was loaded: how many users are gone, where most are
+abbrev pub gone_text : Turnover → CallAnswer → List ℕ
+gone_text between (answers.Edit (Ok changes)) =
+    if most_are_gone between then gone_line between else []
+gone_text between answer = []
+
+abbrev pub load_text : Turnover → Call → CallAnswer → List ℕ
+load_text between call answer = answer_text call answer ++ gone_text between answer
+
 -- how it is told what came of a line
 abbrev pub told : Outcome → List ℕ
 told (noticed notice) = notice_text notice
@@ -184,6 +250,9 @@ told (made entry) = answer_text entry.call entry.answer
 told (rotated rotation) = rotated_line rotation
 told (refused fault) = refusal_line fault
 told (replied line) = line
+told (barred asked) = no_user_line
+told (loaded between asked entry) = load_text between entry.call entry.answer
+told (unloaded asked fault) = refusal_line fault
 
 -- ---- lines, one after another
 
@@ -205,6 +274,9 @@ rotation_of (made entry) = None
 rotation_of (rotated rotation) = Some rotation
 rotation_of (refused fault) = None
 rotation_of (replied line) = None
+rotation_of (barred asked) = None
+rotation_of (loaded between asked entry) = None
+rotation_of (unloaded asked fault) = None
 
 abbrev pub rotations_of : List Outcome → List Rotated
 rotations_of outcomes = filter_map rotation_of outcomes
@@ -292,6 +364,9 @@ IsRefusal (made entry) = ⊥
 IsRefusal (rotated rotation) = ⊥
 IsRefusal (refused fault) = Unit {0}
 IsRefusal (replied line) = ⊥
+IsRefusal (barred asked) = ⊥
+IsRefusal (loaded between asked entry) = ⊥
+IsRefusal (unloaded asked fault) = ⊥
 
 -- after lines that went so the Stop was made, and it ends so: what came of it is told, unless the
 -- lines ended in a fault. Memory runs out only where a refusal is told

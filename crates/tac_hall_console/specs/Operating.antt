@@ -155,13 +155,6 @@ module _ {J V : Type 0} (hears : V → Typing → V → Type 0) where
         (quit_of (lines_at listened input)) was now
     pub whole : HaveEnded input ends.answered ⊎ IsAtEnd after
 
-  -- it ends at commands that ended in LF
-  abbrev pub EndsWhole : Opening → Result (Unit {0}) OperatorFault → List ℕ → Scene J V → Scene J V
-      → Type 0
-  EndsWhole opening end input was now =
-      (ends : EndsAt opening end (commands (lines_of input)) (quit_of (lines_of input)) was now)
-      × HaveEnded input ends.answered
-
 -- ---- the Stop
 
 -- after lines that went so the Stop was made, and it ends so

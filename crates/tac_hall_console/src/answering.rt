@@ -13,6 +13,7 @@ ghost use Rattle.tac_hall_console.specs.Operating as operating;
 
 use crate::fault::OperatorFault;
 use crate::reloading::{Source, read_source};
+use crate::replacing::replace;
 use basics::send;
 use std::alloc::{AllocError, Global};
 use std::io::Write;
@@ -38,8 +39,8 @@ pub(crate) struct Console<J: Run> {
     pub(crate) batch: Batch,
 }
 
-// Adds how a call is answered that was made.
-fn write_answer(
+/// Adds how a call is answered that was made.
+pub(crate) fn write_answer(
     alloc: Global,
     out: &mut Vec<u8>,
     call: &Call,
@@ -77,8 +78,8 @@ fn write_answer(
     }
 }
 
-// Adds how it is told that a call or a rotation was refused.
-fn write_refusal(out: &mut Vec<u8>, fault: HallFault) -> Result<(), AllocError>
+/// Adds how it is told that a call or a rotation was refused.
+pub(crate) fn write_refusal(out: &mut Vec<u8>, fault: HallFault) -> Result<(), AllocError>
     ensures { OnOk result (out.new.items ≡ out.old.items ++ refusal_line fault) }
 {
     match writeln!(out, "hall {fault}") {
@@ -174,7 +175,7 @@ fn reload<H: Wait, J: Run, D: Desk, S: Source>(
         seat.old seat.new) }
 {
     match read_source(alloc, source) {
-        Ok(Ok(policy)) => tell(rt, alloc, desk, seat, &Call::Load(policy), out),
+        Ok(Ok(policy)) => replace(rt, alloc, desk, source, seat, policy, out),
         Ok(Err(line)) => out.extend_from_slice(line.as_slice()),
         Err(_) => out.extend_from_slice(NO_MEMORY),
     }

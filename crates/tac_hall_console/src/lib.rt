@@ -6,7 +6,10 @@ mod fault;
 mod operating;
 mod operator;
 mod reloading;
+mod replacing;
+mod users;
 
 pub use fault::OperatorFault;
 pub use operating::operate;
 pub use reloading::{Source, Unread, no_devices, unread_devices};
+pub use users::has_user;

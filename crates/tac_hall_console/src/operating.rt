@@ -43,11 +43,13 @@ fn stop<H: Wait, J: Run, D: Desk, W: Write>(
 /// Between `begin` and `commit` edits are kept instead, without a call, and the `commit` is one
 /// call with all of them. A call that is refused is told as `hall N REFUSAL`; no batch is open
 /// after that of a `commit` either. The line `rotate` ends the present segment, and `reload` puts
-/// the policy of the source in the place of the present one, in one call. A source without a text
-/// is told as `unread WHY`, a text that is refused as by its check, and one that finds no memory as
-/// `refused 12 Memory`. The line `reload devices` makes no call: it has the source read its
-/// devices' file again, and is answered as that says, or by `refused 12 Memory`. These three leave
-/// the batch as it is. Any other line is answered by `refused 1 BadEdit`.
+/// the policy of the source in the place of the present one, in one call, after one that asks for
+/// that. A policy without a user is told as `fault NoUser` where the present one has one, and isn't
+/// called for. Where fewer than half of the users are there then, the answer ends in how many are
+/// gone. A source without a text is told as `unread WHY`, a text that is refused as by its check,
+/// and one that finds no memory as `refused 12 Memory`. `reload devices` makes no call: the source
+/// reads its devices' file again, and says the answer, or it is `refused 12 Memory`. These three
+/// leave the batch as it is. Any other line is answered by `refused 1 BadEdit`.
 ///
 /// A line `quit`, or the end of the input, makes the Stop, which is one call; so does a fault. It
 /// is refused only as Closed, or as LogFull where the log is full. Edits that are kept then are

@@ -1,11 +1,13 @@
 //! What is read again where an operator says so: a policy, which takes the place of the present
 //! one, and a devices' file.
 
-ghost use Rattle.std.specs.Prelude.{◌≡◌, IfOk};
+ghost use Rattle.std.specs.Prelude.{◌≡◌, ◌++◌, IfOk, OnOk};
 ghost use Rattle.tac_console.specs.Faults as faults;
 ghost use Rattle.tac_hall_console.specs.DevicesAnswer.{IsDevicesAnswer, no_devices_line};
 ghost use Rattle.tac_hall_console.specs.DevicesAnswer.{unread_devices_line};
 ghost use Rattle.tac_hall_console.specs.Operated as operated;
+ghost use Rattle.tac_hall_console.specs.Shown as specified;
+ghost use Rattle.tac_hall_console.specs.Shown.{shown};
 
 use basics::Bytes;
 use pol_text::{Policy, PolicyFault};
@@ -15,7 +17,7 @@ use tac_console::write_policy_fault;
 /// Why the text of a policy can't be had.
 #[derive(Drop)]
 pub enum Unread {
-    /// For this reason, which is told, without a line end.
+    /// For this reason, which is told in one line.
     Why(Bytes),
     /// Memory ran out.
     Memory,
@@ -32,6 +34,31 @@ pub trait Source {
     /// may wait for what it is read from.
     fn reload_devices(&self, alloc: Global) -> Result<Bytes, AllocError>
         ensures { IfOk result IsDevicesAnswer };
+
+    /// Says a line of an answer, with its LF, where whoever runs the server sees it too.
+    fn warn(&self, line: &[u8]);
+}
+
+fn is_control(byte: u8) -> bool
+    ensures { result ≡ specified.is_control byte }
+{
+    byte < b' ' || byte == 0x7F
+}
+
+fn shown_byte(byte: u8) -> u8
+    ensures { result ≡ specified.shown_byte byte }
+{
+    if is_control(byte) { b'?' } else { byte }
+}
+
+// Adds bytes as a line shows them: without a line end, or any other control character.
+fn add_shown(line: &mut Vec<u8>, bytes: &[u8]) -> Result<(), AllocError>
+    ensures { OnOk result (line.new.items ≡ line.old.items ++ shown bytes.now) }
+{
+    'bytes: for byte in bytes {
+        line.push(shown_byte(*byte))?;
+    }
+    Ok(())
 }
 
 // The line that says why a text is no policy.
@@ -43,13 +70,13 @@ fn no_policy(alloc: Global, fault: PolicyFault) -> Result<Bytes, AllocError>
     Ok(Bytes::from(line))
 }
 
-// The line that says why there is no text.
+// The line that says why there is no text. In it each control character is a `?`.
 fn no_text(alloc: Global, why: &[u8]) -> Result<Bytes, AllocError>
     ensures { IfOk result (λ line. line ≡ operated.unread_line why.now) }
 {
     let mut line = Vec::new(alloc);
     line.extend_from_slice(b"unread ")?;
-    line.extend_from_slice(why)?;
+    add_shown(&mut line, why)?;
     line.extend_from_slice(b"\n")?;
     Ok(Bytes::from(line))
 }
@@ -61,13 +88,14 @@ pub fn no_devices(alloc: Global) -> Result<Bytes, AllocError>
     Bytes::from_slice(alloc, b"no devices\n")
 }
 
-/// What a source answers whose devices' file can't be read for this reason, which has no line end.
+/// What a source answers whose devices' file can't be read for this reason: one line, in which each
+/// control character is a `?`.
 pub fn unread_devices(alloc: Global, why: &[u8]) -> Result<Bytes, AllocError>
     ensures { IfOk result (λ line. line ≡ unread_devices_line why.now) }
 {
     let mut line = Vec::new(alloc);
     line.extend_from_slice(b"devices unread ")?;
-    line.extend_from_slice(why)?;
+    add_shown(&mut line, why)?;
     line.extend_from_slice(b"\n")?;
     Ok(Bytes::from(line))
 }

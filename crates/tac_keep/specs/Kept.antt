@@ -1,21 +1,58 @@
 -- What is handed over of a policy, and an answer that is told once a store holds that
 -- (docs/PROVED.md, "Edits that outlive a server").
-use Rattle.std.specs.Prelude.{◌≡◌, ◌⊎◌, ℕ, List, take, Option, Some, None, Result, Ok, Err}
+use Rattle.std.specs.Prelude.{◌≡◌, ◌⊎◌, ℕ, List, [], ◌∷◌, ◌++◌, take, true, false}
+use Rattle.std.specs.Prelude.{Option, Some, None, Result, Ok, Err}
 use Rattle.std.specs.Io.KnownBytes.{Appends, Keeps}
+use Rattle.std.specs.declared.io.Error.{Error}
 use Rattle.pol_text.specs.Text.{text_of}
 use Rattle.pol_text.specs.declared.subject.Subject.{Subject}
+use Rattle.tac_keep.specs.declared.desk.KeptDesk.{KeptDesk}
 use Rattle.tac_keep.specs.declared.tray.Wanted.{Wanted}
 use Rattle.tac_keep.specs.declared.tray.Wanted.TheVariants as wanted
 use Rattle.tac_keep.specs.declared.keeper.Keeper.{Keeper}
+use Rattle.tac_keep.specs.declared.keeper.Unkept.{Unkept}
+use Rattle.tac_keep.specs.declared.keeper.Unkept.TheVariants as unkept
 use Rattle.tac_keep.specs.declared.keeper.Untold.{Untold}
 use Rattle.tac_keep.specs.declared.keeper.Untold.TheVariants as untold
 
 -- ---- a desk
 
--- what this policy is printed as was told, or that there was no memory to print it
-abbrev pub IsHandedOver : (Wanted → Type 0) → List Subject → Type 0
-IsHandedOver was_told policy =
-    was_told (wanted.Text (text_of policy)) ⊎ was_told wanted.Unprinted
+-- these were told after all that was told before; of a tray, of which nothing is known, it may be so
+abbrev pub Tells : Option (List Wanted) → Option (List Wanted) → List Wanted → Type 0
+Tells None after new = Unit {0}
+Tells (Some before) after new = after ≡ Some (before ++ new)
+
+module _ {P T D : Type 0} (told : T → Option (List Wanted)) where
+  -- nothing was told
+  abbrev pub Rests : KeptDesk P T D → KeptDesk P T D → Type 0
+  Rests was now =
+      (now.is_unprinted ≡ was.is_unprinted) × Tells (told was.tray) (told now.tray) []
+
+  -- it was told once that nothing is to be kept
+  abbrev pub Forgets : KeptDesk P T D → KeptDesk P T D → Type 0
+  Forgets was now =
+      (now.is_unprinted ≡ false)
+      × Tells (told was.tray) (told now.tray) (wanted.Nothing ∷ [])
+
+  -- what this policy is printed as was told once
+  abbrev pub IsTold : KeptDesk P T D → KeptDesk P T D → List Subject → Type 0
+  IsTold was now policy =
+      (now.is_unprinted ≡ false)
+      × Tells (told was.tray) (told now.tray) (wanted.Text (text_of policy) ∷ [])
+
+  -- it was told once that there was no memory for that
+  abbrev pub IsUntold : KeptDesk P T D → KeptDesk P T D → Type 0
+  IsUntold was now =
+      (now.is_unprinted ≡ true)
+      × Tells (told was.tray) (told now.tray) (wanted.Unprinted ∷ [])
+
+  -- the one, or, only where the printer may lack memory for this policy, the other
+  abbrev pub IsHandedOver : Type 0 → KeptDesk P T D → KeptDesk P T D → List Subject → Type 0
+  IsHandedOver Lacks was now policy = IsTold was now policy ⊎ (Lacks × IsUntold was now)
+
+  -- the same of a policy of which that was told already: it isn't told again
+  abbrev pub IsHandedOverLate : Type 0 → KeptDesk P T D → KeptDesk P T D → List Subject → Type 0
+  IsHandedOverLate Lacks was now policy = IsTold was now policy ⊎ (Lacks × Rests was now)
 
 -- ---- a store
 
@@ -65,3 +102,18 @@ module _ {S : Type 0} (held : S → Option (Option (List ℕ))) where
       Settles was now × Keeps before after
   Sends (Err (untold.NotKept _)) answer was now before after =
       Owes was now × (after ≡ before)
+
+module _ {S : Type 0} (refuses : S → Option (List ℕ) → Error → Type 0) where
+  -- why a store doesn't hold what is owed: it refused that, and said so; or there was no memory to
+  -- print it. Where nothing is owed there is no reason
+  abbrev pub IsWhy : S → Option Wanted → Unkept → Type 0
+  IsWhy store (Some (wanted.Text text)) (unkept.Failed error) = refuses store (Some text) error
+  IsWhy store (Some wanted.Nothing) (unkept.Failed error) = refuses store None error
+  IsWhy store (Some wanted.Unprinted) unkept.Memory = Unit {0}
+  IsWhy store _ _ = ⊥
+
+  -- what comes of an answer is what the stream said to it, or why it was kept from the stream
+  abbrev pub IsSaid : (Result ℕ Error → Type 0) → Keeper S → Result ℕ Untold → Type 0
+  IsSaid says was (Ok taken) = says (Ok taken)
+  IsSaid says was (Err (untold.Unwritten error)) = says (Err error)
+  IsSaid says was (Err (untold.NotKept why)) = IsWhy was.store was.owed why

@@ -1,6 +1,7 @@
 //! A desk that hands its policy over whenever that is another one.
 
-ghost use Rattle.std.specs.Prelude.{◌≡◌, ◌↔◌, false, Ok, Err, IsOk, IsTrue, IfOk, OnOk, OnErr};
+ghost use Rattle.std.specs.Prelude.{◌≡◌, ◌↔◌, true, false, Ok, Err, IsOk, IsTrue, IfOk};
+ghost use Rattle.std.specs.Prelude.{OnOk, OnErr};
 ghost use Rattle.pol_edit.specs.Applying.{is_memory};
 ghost use Rattle.pol_edit.specs.Batches.{ran_out};
 ghost use Rattle.pol_meaning.specs.Memory.{UnlessMemory};
@@ -10,15 +11,14 @@ ghost use Rattle.tac_desk.specs.Asking.{asked, takes_memory, Passes};
 ghost use Rattle.tac_desk.specs.Editing as editing;
 ghost use Rattle.tac_desk.specs.Reporting as reporting;
 ghost use Rattle.tac_desk.specs.declared.query.QueryFault.TheVariants.{NoSuch};
-ghost use Rattle.tac_keep.specs.Kept.{IsHandedOver};
-ghost use Rattle.tac_keep.specs.declared.tray.Wanted.TheVariants as wanted;
+ghost use Rattle.tac_keep.specs.Kept.{Rests, Forgets, IsHandedOver, IsHandedOverLate};
 
-use crate::printing::printed;
+use crate::printing::Printer;
 use crate::tray::{HandOver, Wanted};
 use pol_edit::{BatchFault, Edit, EditFault};
 use pol_meaning::Changes;
 use pol_text::Policy;
-use std::alloc::{AllocError, Global};
+use std::alloc::AllocError;
 use tac_conn::{Answer, Ask, Hash};
 use tac_desk::{Desk, Query, QueryFault, Report, State, Thrice};
 
@@ -27,22 +27,24 @@ use tac_desk::{Desk, Query, QueryFault, Report, State, Thrice};
 /// history; and after an accepted load that nothing is to be kept. Where there is no memory to
 /// print the policy it hands over that, and tries again at the next question.
 #[derive(Drop)]
-pub struct KeptDesk<'a, T, D> {
-    alloc: Global,
-    tray: &'a T,
+pub struct KeptDesk<P, T, D> {
+    printer: P,
+    tray: T,
     desk: D,
     // whether the policy could not be printed when it was handed over
     is_unprinted: bool,
 }
 
-impl<'a, T: HandOver, D: Desk> KeptDesk<'a, T, D> {
+impl<P: Printer, T: HandOver, D: Desk> KeptDesk<P, T, D> {
     /// This desk, of whose policy nothing is handed over yet.
-    pub fn new(alloc: Global, tray: &'a T, desk: D) -> KeptDesk<'a, T, D>
+    pub fn new(printer: P, tray: T, desk: D) -> KeptDesk<P, T, D>
+        ensures printer { result.printer ≡ printer }
+        ensures tray { result.tray ≡ «tray» }
         ensures desk { result.desk ≡ «desk» }
-        ensures tray { result.tray.now ≡ tray.now }
+        ensures printed { result.is_unprinted ≡ false }
     {
         KeptDesk {
-            alloc,
+            printer,
             tray,
             desk,
             is_unprinted: false,
@@ -51,12 +53,12 @@ impl<'a, T: HandOver, D: Desk> KeptDesk<'a, T, D> {
 
     // Hands the present policy over, or that it could not be printed.
     fn hand_over(&mut self)
-        ensures handed { IsHandedOver (T.was_told self.old.tray.now)
-            (D.meaning self.old.desk).policy }
+        ensures handed { IsHandedOver T.told (P.lacks self.old.printer
+            (D.meaning self.old.desk).policy) self.old self.new (D.meaning self.old.desk).policy }
         ensures desk { D.meaning self.new.desk ≡ D.meaning self.old.desk }
-        ensures tray { self.new.tray.now ≡ self.old.tray.now }
+        ensures printer { self.new.printer ≡ self.old.printer }
     {
-        match printed(self.alloc, &mut self.desk) {
+        match self.printer.print(&mut self.desk) {
             Ok(text) => {
                 self.is_unprinted = false;
                 self.tray.hand_over(Wanted::Text(text));
@@ -70,17 +72,19 @@ impl<'a, T: HandOver, D: Desk> KeptDesk<'a, T, D> {
 
     // Hands the present policy over, if there is memory to print it by now.
     fn hand_over_late(&mut self)
+        ensures handed { IsHandedOverLate T.told (P.lacks self.old.printer
+            (D.meaning self.old.desk).policy) self.old self.new (D.meaning self.old.desk).policy }
         ensures desk { D.meaning self.new.desk ≡ D.meaning self.old.desk }
-        ensures tray { self.new.tray.now ≡ self.old.tray.now }
+        ensures printer { self.new.printer ≡ self.old.printer }
     {
-        if let Ok(text) = printed(self.alloc, &mut self.desk) {
+        if let Ok(text) = self.printer.print(&mut self.desk) {
             self.is_unprinted = false;
             self.tray.hand_over(Wanted::Text(text));
         }
     }
 }
 
-impl<T: HandOver, D: Desk> Desk for KeptDesk<'_, T, D> {
+impl<P: Printer, T: HandOver, D: Desk> Desk for KeptDesk<P, T, D> {
     ghost meaning = { λ desk. D.meaning desk.desk };
 
     fn ask(&mut self, ask: &Ask) -> Result<Answer, AllocError>
@@ -92,6 +96,9 @@ impl<T: HandOver, D: Desk> Desk for KeptDesk<'_, T, D> {
         ensures passes { (result ≡ Ok answers.Pass) ↔ Passes (D.meaning self.old.desk) ask.now }
         ensures sure { takes_memory (D.meaning self.old.desk) ask.now ≡ false → IsOk result }
         ensures err { OnErr result (D.meaning self.new.desk ≡ D.meaning self.old.desk) }
+
+        // No ask has anything handed over.
+        ensures handed { Rests T.told self.old self.new }
     {
         self.desk.ask(ask)
     }
@@ -108,8 +115,9 @@ impl<T: HandOver, D: Desk> Desk for KeptDesk<'_, T, D> {
         ensures err { OnErr result (D.meaning self.new.desk ≡ D.meaning self.old.desk) }
 
         // The policy with the edit is handed over.
-        ensures handed { OnOk result (IsHandedOver (T.was_told self.old.tray.now)
-            (D.meaning self.new.desk).policy) }
+        ensures handed { OnOk result (IsHandedOver T.told (P.lacks self.old.printer
+            (D.meaning self.new.desk).policy) self.old self.new (D.meaning self.new.desk).policy) }
+        ensures refused { OnErr result (Rests T.told self.old self.new) }
     {
         let edited = self.desk.edit(edit);
         if edited.is_ok() {
@@ -126,8 +134,9 @@ impl<T: HandOver, D: Desk> Desk for KeptDesk<'_, T, D> {
         ensures err { OnErr result (D.meaning self.new.desk ≡ D.meaning self.old.desk) }
 
         // The policy with all of the edits is handed over.
-        ensures handed { OnOk result (IsHandedOver (T.was_told self.old.tray.now)
-            (D.meaning self.new.desk).policy) }
+        ensures handed { OnOk result (IsHandedOver T.told (P.lacks self.old.printer
+            (D.meaning self.new.desk).policy) self.old self.new (D.meaning self.new.desk).policy) }
+        ensures refused { OnErr result (Rests T.told self.old self.new) }
     {
         let edited = self.desk.edit_all(edits);
         if edited.is_ok() {
@@ -145,7 +154,8 @@ impl<T: HandOver, D: Desk> Desk for KeptDesk<'_, T, D> {
         ensures err { OnErr result (D.meaning self.new.desk ≡ D.meaning self.old.desk) }
 
         // A policy that was loaded is kept elsewhere.
-        ensures handed { OnOk result (T.was_told self.old.tray.now wanted.Nothing) }
+        ensures handed { OnOk result (Forgets T.told self.old self.new) }
+        ensures refused { OnErr result (Rests T.told self.old self.new) }
     {
         let loaded = self.desk.load(policy);
         if loaded.is_ok() {
@@ -165,6 +175,12 @@ impl<T: HandOver, D: Desk> Desk for KeptDesk<'_, T, D> {
         ensures sure { reporting.Reports (D.meaning self.old.desk) query.now (Err NoSuch) →
             result ≡ Err NoSuch }
         ensures after { D.meaning self.new.desk ≡ D.meaning self.old.desk }
+
+        // A policy that could not be printed is handed over, if there is memory by now; else none is.
+        ensures late { self.old.is_unprinted ≡ true → IsHandedOverLate T.told (P.lacks
+            self.old.printer (D.meaning self.old.desk).policy) self.old self.new
+            (D.meaning self.old.desk).policy }
+        ensures handed { self.old.is_unprinted ≡ false → Rests T.told self.old self.new }
     {
         if self.is_unprinted {
             self.hand_over_late();

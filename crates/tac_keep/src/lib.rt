@@ -5,12 +5,14 @@ mod desk;
 mod files;
 mod keeper;
 mod output;
+mod place;
 mod printing;
 mod tray;
 
 pub use desk::KeptDesk;
 pub use files::{KeepFiles, KeptFile};
-pub use keeper::{Keeper, Store, Unkept, Untold, send_kept};
+pub use keeper::{Answers, Keeper, Store, Unkept, Untold, send_kept};
 pub use output::{Complaint, KeptOutput};
-pub use printing::printed;
+pub use place::{Place, Use};
+pub use printing::Printer;
 pub use tray::{HandOver, Tray, Wanted};

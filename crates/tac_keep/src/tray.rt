@@ -1,5 +1,8 @@
 //! What is to be kept, and where a desk hands it over.
 
+ghost use Rattle.std.specs.Prelude.{List, [], ◌∷◌, Option, None};
+ghost use Rattle.tac_keep.specs.Kept.{Tells};
+
 use basics::Bytes;
 use std::sync::Mutex;
 use std::sync::atomic::{AtomicBool, Ordering};
@@ -27,15 +30,15 @@ impl Drop for Wanted {
 }
 
 /// Who is told what is to be kept, each time that this is another.
-pub trait HandOver {
+pub trait HandOver: Drop {
     ghost use Rattle.tac_keep.specs.declared.tray.Wanted.{Wanted as WantedValue};
 
-    /// It was told this.
-    ghost was_told: { Self → WantedValue → Type 0 };
+    /// All that it was told, in order, where that is known.
+    ghost told: { Self → Option (List WantedValue) };
 
     /// Tells it. What it was told before no longer counts.
-    fn hand_over(&self, wanted: Wanted)
-        ensures { was_told self.now wanted };
+    fn hand_over(&mut self, wanted: Wanted)
+        ensures { Tells (told self.old) (told self.new) (wanted ∷ []) };
 }
 
 /// Where the newest lies until the console takes it. A desk is edited by the calls of its console
@@ -84,11 +87,11 @@ impl Tray {
     }
 }
 
-impl HandOver for Tray {
+impl HandOver for &Tray {
     // what lies behind a lock is in no contract
-    ghost was_told = { λ _ _. Unit {0} };
+    ghost told = { λ _. None };
 
-    fn hand_over(&self, wanted: Wanted) {
+    fn hand_over(&mut self, wanted: Wanted) {
         let has_edits = match &wanted {
             Wanted::Nothing => false,
             Wanted::Text(_) | Wanted::Unprinted => true,

@@ -18,6 +18,9 @@ const FOLDER_MODE: u32 = 0o700;
 /// The rights of a console's socket: its owner's alone.
 const MODE: u32 = 0o600;
 
+/// What is said where the folder can't be made, since something has its name.
+const TAKEN: &str = "something else is at this path with '.new' after it";
+
 /// What the system does for consoles, and for a proxy's socket.
 pub trait ConsoleHost {
     /// Listens at a path, at a socket of these rights, as in `chmod`: nobody has more at any
@@ -94,6 +97,16 @@ fn see_that_it_is_free<R: Files + Net>(rt: &R, path: &str) -> io::Result<()> {
     }
 }
 
+// Makes the folder in which the socket is made. What is told is told of the socket's own path.
+fn make_folder<R: Files>(rt: &R, folder: &str) -> io::Result<()> {
+    match DirBuilder::new().mode(FOLDER_MODE).create(rt, folder) {
+        Err(error) if error.kind() == ErrorKind::AlreadyExists => {
+            Err(io::Error::new(ErrorKind::AlreadyExists, TAKEN))
+        }
+        made => made,
+    }
+}
+
 // Listens at a path, and moves that to another one once its rights are set.
 fn listen_at<R: Files + Net>(
     rt: &R,
@@ -118,9 +131,7 @@ fn open_socket<R: Files + Net + AllocGlobal>(
     // what a server left that was killed at this point
     let _ = fs::remove_file(rt, within.as_str());
     let _ = fs::remove_dir(rt, folder.as_str());
-    DirBuilder::new()
-        .mode(FOLDER_MODE)
-        .create(rt, folder.as_str())?;
+    make_folder(rt, folder.as_str())?;
     let listening = listen_at(rt, within.as_str(), path, mode);
     let _ = fs::remove_file(rt, within.as_str());
     let _ = fs::remove_dir(rt, folder.as_str());
