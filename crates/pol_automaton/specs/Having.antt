@@ -244,14 +244,6 @@ derive_more old now after symbol items i item next more grows within lt is so_fa
           | inr h ↦ inr (h.0, subst (λ (t : Term). Derivative symbol t term) h.1 w.2)
         ]
 
-pub derive_none : (table : List Term) (symbol : ℕ) (items : List EntryTerm)
-    → AreDerivatives table table symbol (take 0 items) []
-derive_none table symbol items = record {
-  within = λ k d lt. absurd (omega arith);
-  members =
-      λ entry term. (λ h. absurd (omega (arith, h.1.1)), λ w. absurd (omega (arith, w.1.1.1)));
-}
-
 -- in order, and over all items
 pub derived_in_order : (old new : List Term) (symbol : ℕ)
     (items part next ordered : List EntryTerm) → part ≡ items

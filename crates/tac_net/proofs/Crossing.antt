@@ -20,6 +20,8 @@ use Rattle.tac_net.specs.contracts.intake.Arrival as Arrival
 use Rattle.tac_net.specs.contracts.intake.Inbox as Inbox
 use Rattle.tac_net.specs.contracts.intake.Intake as Intake
 use Rattle.tac_net.specs.contracts.listeners.Listeners as Listeners
+use Rattle.tac_net.specs.contracts.misfits.Hushed as Hushed
+use Rattle.tac_net.specs.contracts.misfits.Misfits as Misfits
 use Rattle.tac_net.specs.contracts.port.Port as Port
 use Rattle.tac_net.specs.contracts.proxy_socket.ProxySocket as ProxySocket
 use Rattle.tac_net.specs.contracts.settings.Settings as Settings
@@ -61,8 +63,14 @@ Arrival-send = search (crosses, sendable) depth 60
 pub Inbox-sync : IsSync Inbox.the_row
 Inbox-sync = search (Arrival-send, crosses, sendable) depth 60 fits 20000
 
+pub Hushed-send : IsSend Hushed.the_row
+Hushed-send = search (crosses, sendable) depth 60
+
+pub Misfits-sync : IsSync Misfits.the_row
+Misfits-sync = search (Hushed-send, crosses, sendable) depth 60 fits 20000
+
 pub Intake-sync : IsSync Intake.the_row
-Intake-sync = search (Inbox-sync, census.the_send, crosses, sendable) depth 60 fits 20000
+Intake-sync = search (Inbox-sync, Misfits-sync, census.the_send, crosses, sendable) depth 60 fits 20000
 
 pub Counts-sync : IsSync Counts.the_row
 Counts-sync = search (counts.the_sync, crosses, sendable) depth 60

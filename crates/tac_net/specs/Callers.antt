@@ -13,6 +13,7 @@ use Rattle.tac_audit.specs.declared.event.CameBy.TheVariants as came
 use Rattle.tac_audit.specs.declared.event.Named.{Named}
 use Rattle.tac_audit.specs.declared.event.WhyTurnedAway.{WhyTurnedAway}
 use Rattle.tac_audit.specs.declared.event.WhyTurnedAway.TheVariants.{UnknownDevice, NoKey, NoTls}
+use Rattle.tac_audit.specs.declared.event.WhyTurnedAway.TheVariants.{NoCertificate}
 use Rattle.tac_audit.specs.declared.event.WhyTurnedAway.TheVariants.{OtherCertificate}
 use Rattle.tac_devices.specs.Devices.{IsDeviceAt}
 use Rattle.tac_devices.specs.Text.{IsText}
@@ -20,6 +21,9 @@ use Rattle.tac_devices.specs.Tls.{admits}
 use Rattle.tac_devices.specs.declared.device.Device.{Device}
 use Rattle.tac_devices.specs.declared.device.Secret.{Secret}
 use Rattle.tac_devices.specs.declared.device.Tls.{Tls}
+use Rattle.tac_proxy.specs.Certificate.{told_name}
+use Rattle.tac_proxy.specs.declared.told.Certificate.{Certificate}
+use Rattle.tac_proxy.specs.declared.told.Certificate.TheVariants.{Unverified}
 use Rattle.tac_net.specs.declared.callers.Callers.{Callers}
 use Rattle.tac_net.specs.declared.callers.Callers.TheVariants.{Any, Listed}
 use Rattle.tac_net.specs.declared.callers.Found.{Found}
@@ -48,15 +52,22 @@ abbrev pub refused_at_port : Option Secret → Option WhyTurnedAway
 refused_at_port None = Some NoKey
 refused_at_port (Some secret) = None
 
--- by a proxy it needs a certificate that its block admits, and the server a proxy
-abbrev pub refused_by_proxy : Bool → Option Tls → Option (List ℕ) → Option WhyTurnedAway
-refused_by_proxy true (Some tls) name = if admits tls name then None else Some OtherCertificate
-refused_by_proxy has_proxy tls name = Some NoTls
+-- inside TLS it needs a certificate that was verified, and that its block admits
+abbrev pub refused_inside : Tls → Certificate → Option WhyTurnedAway
+refused_inside tls Unverified = Some NoCertificate
+refused_inside tls certificate =
+    if admits tls certificate then None else Some OtherCertificate
+
+-- by a proxy it needs a block that lets it come so, and the server a proxy
+abbrev pub refused_by_proxy : Bool → Option Tls → Certificate → Option WhyTurnedAway
+refused_by_proxy true (Some tls) certificate = refused_inside tls certificate
+refused_by_proxy has_proxy tls certificate = Some NoTls
 
 -- why a device is refused that comes this way, if it is
 abbrev pub refusal_of : Bool → Device → Way → Option WhyTurnedAway
 refusal_of has_proxy device Port = refused_at_port device.secret
-refusal_of has_proxy device (Proxy name) = refused_by_proxy has_proxy device.tls name
+refusal_of has_proxy device (Proxy certificate) =
+    refused_by_proxy has_proxy device.tls certificate
 
 -- how lines name a device
 abbrev pub named : Device → CameBy → Option Named
@@ -65,12 +76,12 @@ named device came_by = Some (record { name = device.name; came_by = came_by })
 -- .. of which no connection is served
 abbrev pub named_by : Device → Way → Option Named
 named_by device Port = named device came.Key
-named_by device (Proxy name) = named device (came.Tls name)
+named_by device (Proxy certificate) = named device (came.Tls (told_name certificate))
 
 -- a call from this address is refused for this reason, and lines name its device so, if there is one
 abbrev pub IsRefused : Callers → IpAddr → Way → WhyTurnedAway → Option Named → Type 0
 IsRefused (Any key) address Port why who = ⊥
-IsRefused (Any key) address (Proxy name) why who = (why ≡ NoTls) × (who ≡ None)
+IsRefused (Any key) address (Proxy certificate) why who = (why ≡ NoTls) × (who ≡ None)
 IsRefused (Listed directory proxy) address way why who =
     (devices : List Device) × WasListed directory devices
     × (found : Option Device) × IsDeviceAt devices address found
@@ -98,7 +109,8 @@ IsDoorInside device way door who = (door ≡ Clear) × (who ≡ named_by device 
 abbrev pub IsDoorOf : Device → Way → Door → Option Named → Type 0
 IsDoorOf device Port door who =
     (secret : Secret) × (device.secret ≡ Some secret) × IsDoorOfKeys device secret.keys door who
-IsDoorOf device (Proxy name) door who = IsDoorInside device (Proxy name) door who
+IsDoorOf device (Proxy certificate) door who =
+    IsDoorInside device (Proxy certificate) door who
 
 -- ---- who may call
 
@@ -106,7 +118,7 @@ IsDoorOf device (Proxy name) door who = IsDoorInside device (Proxy name) door wh
 -- devices aren't listed
 abbrev pub MayCall : Callers → IpAddr → Way → Door → Option Named → Type 0
 MayCall (Any key) address Port door who = (door ≡ Padded key) × (who ≡ None)
-MayCall (Any key) address (Proxy name) door who = ⊥
+MayCall (Any key) address (Proxy certificate) door who = ⊥
 MayCall (Listed directory proxy) address way door who =
     (devices : List Device) × WasListed directory devices
     × (device : Device) × IsDeviceAt devices address (Some device)
@@ -124,7 +136,7 @@ abbrev pub IsFoundAs : Device → Way → Found → Type 0
 IsFoundAs device Port (Keyed other keys) =
     (other.now ≡ device)
     × ((secret : Secret) × (device.secret ≡ Some secret) × (keys.now ≡ secret.keys))
-IsFoundAs device (Proxy name) (Certified other by) = other.now ≡ device
+IsFoundAs device (Proxy certificate) (Certified other by) = other.now ≡ device
 IsFoundAs device way found = ⊥
 
 abbrev pub IsFoundAt : Callers → IpAddr → Way → Found → Type 0

@@ -12,17 +12,19 @@ use Rattle.tac_net.specs.declared.fault.ServeFault.TheVariants.{WriteFault, Memo
 abbrev pub listening_line : List ℕ → List ℕ
 listening_line place = codes "listening " ++ place ++ 10 ∷ []
 
-abbrev pub port_line : Option ℕ → List ℕ
-port_line None = []
-port_line (Some port) = listening_line (decimal port)
+-- the number of a port, and the address where it isn't every one of the machine
+abbrev pub port_line : Option ℕ → Option (List ℕ) → List ℕ
+port_line None address = []
+port_line (Some port) None = listening_line (decimal port)
+port_line (Some port) (Some address) = listening_line (decimal port ++ codes " at " ++ address)
 
 abbrev pub proxy_line : Option (List ℕ) → List ℕ
 proxy_line None = []
 proxy_line (Some path) = listening_line path
 
--- where a server listens: the number of its port, and the path of its proxy's socket
+-- where a server listens: its port, and the path of its proxy's socket
 unfoldable pub listening : Settings → List ℕ
-listening settings = port_line settings.port ++ proxy_line settings.proxy
+listening settings = port_line settings.port settings.address ++ proxy_line settings.proxy
 
 -- the first lines were written, or a beginning of them; or nothing, where memory ran out
 abbrev pub Announces : Result (Unit {0}) ServeFault → List ℕ → Option (List ℕ)

@@ -11,9 +11,9 @@ use crate::peer::Way;
 use std::alloc::{AllocError, Global};
 use std::net::IpAddr;
 use tac_audit::{CameBy, Named, WhyTurnedAway};
-use tac_devices::Device;
+use tac_devices::{Device, Tls};
 use tac_first::{Keys, Shown, shown_by};
-use tac_proxy::CommonName;
+use tac_proxy::Certificate;
 use tac_wire::{Door, KeyDoor};
 
 /// Which devices may call a server, and by which keys (RFC 8907, section 10.5) or certificates (RFC
@@ -81,7 +81,7 @@ fn named_by(device: &Device, way: &Way) -> Option<Named>
 {
     match way {
         Way::Port => named(device, CameBy::Key),
-        Way::Proxy(name) => named(device, CameBy::Tls(*name)),
+        Way::Proxy(certificate) => named(device, CameBy::Tls(certificate.name())),
     }
 }
 
@@ -101,18 +101,34 @@ fn caller_by<'a>(device: &'a Device, keys: &'a Keys, shown: Shown) -> Caller<'a>
     }
 }
 
+// Why a device of such a block is refused with such a certificate, if it is.
+fn refused_inside(tls: &Tls, certificate: &Certificate) -> Option<WhyTurnedAway>
+    ensures { result ≡ callers.refused_inside tls.now certificate.now }
+{
+    match certificate {
+        Certificate::Unverified => Some(WhyTurnedAway::NoCertificate),
+        Certificate::NotTold | Certificate::Verified(_) => {
+            if tls.admits(certificate) {
+                None
+            } else {
+                Some(WhyTurnedAway::OtherCertificate)
+            }
+        }
+    }
+}
+
 // How a device is found that comes by a proxy with such a certificate, or why it is refused.
 fn found_inside<'a>(
     proxy: &'a Option<ClearDoor>,
     device: &'a Device,
-    name: &Option<CommonName>,
+    certificate: &Certificate,
 ) -> Result<Found<'a>, WhyTurnedAway>
     ensures found { IfOk result (λ found.
-        callers.IsFoundAs device.now (Proxy name.now) found) }
+        callers.IsFoundAs device.now (Proxy certificate.now) found) }
     ensures may { IfOk result (λ _.
-        callers.refused_by_proxy (is_some proxy.now) device.now.tls name.now ≡ None) }
+        callers.refused_by_proxy (is_some proxy.now) device.now.tls certificate.now ≡ None) }
     ensures refused { IfErr result (λ why.
-        callers.refused_by_proxy (is_some proxy.now) device.now.tls name.now ≡ Some why) }
+        callers.refused_by_proxy (is_some proxy.now) device.now.tls certificate.now ≡ Some why) }
 {
     let Some(proxy) = proxy else {
         return Err(WhyTurnedAway::NoTls);
@@ -120,10 +136,10 @@ fn found_inside<'a>(
     let Some(tls) = &device.tls else {
         return Err(WhyTurnedAway::NoTls);
     };
-    if !tls.admits(name.as_ref()) {
-        return Err(WhyTurnedAway::OtherCertificate);
+    match refused_inside(tls, certificate) {
+        Some(why) => Err(why),
+        None => Ok(Found::Certified(device, proxy)),
     }
-    Ok(Found::Certified(device, proxy))
 }
 
 // How a device is found that comes this way, or why it is refused.
@@ -143,7 +159,7 @@ fn found_as<'a>(
             Some(secret) => Ok(Found::Keyed(device, &secret.keys)),
             None => Err(WhyTurnedAway::NoKey),
         },
-        Way::Proxy(name) => found_inside(proxy, device, name),
+        Way::Proxy(certificate) => found_inside(proxy, device, certificate),
     }
 }
 

@@ -23,8 +23,8 @@ use tac_tally::RecordLimit;
 
 /// Another desk, which is asked and edited as that one is. Where its limit refuses records,
 /// standard error is told when nine tenths of it are stored, and when all is, once each. That is
-/// written during the call that stores the record, before it is answered: twice in the life of a
-/// server. A write that fails makes no difference; one that blocks holds up the call.
+/// said during the call that stores the record, before it is answered: so the host is one whose
+/// standard error nobody waits for. What can't be said makes no difference.
 #[derive(Drop)]
 pub struct FillingDesk<'a, R, D> {
     rt: &'a R,

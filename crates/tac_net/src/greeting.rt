@@ -8,7 +8,7 @@ use crate::peer::{Peer, Way};
 use mio::net::TcpStream;
 use std::alloc::Global;
 use std::io::{ErrorKind, Read};
-use tac_proxy::{Header, Proxy, read_proxy};
+use tac_proxy::{Header, Proxy, Source, read_proxy};
 
 /// How many bytes are read of a connection before its header is whole: the longest has as many.
 const MOST: usize = 536;
@@ -38,10 +38,10 @@ impl Drop for Greeting {
 pub(crate) enum Greeted {
     /// Its header isn't whole.
     Waits(Greeting),
-    /// The header tells of no caller, as where a proxy looks whether the server is up; or nothing
-    /// came before the end.
+    /// The proxy calls on its own, as to see whether the server is up; or nothing came before the
+    /// end.
     Gone,
-    /// What came is no header, nor the beginning of one.
+    /// What came is no header, nor the beginning of one; or its header tells of no caller.
     Bad,
     /// Memory ran out.
     Memory,
@@ -108,14 +108,16 @@ impl Greeting {
             since: _,
             begun,
         } = self;
-        let Some(address) = header.source else {
-            return Greeted::Gone;
+        let address = match header.source {
+            Source::Caller(address) => address,
+            Source::Local => return Greeted::Gone,
+            Source::Unknown => return Greeted::Bad,
         };
         let mut rest = Vec::new(alloc);
         if rest.extend_from_slice(&begun[header.used..]).is_err() {
             return Greeted::Memory;
         }
-        let way = Way::Proxy(header.name);
+        let way = Way::Proxy(header.certificate);
         Greeted::Arrived(Arrival {
             stream,
             peer: Peer { address, way },

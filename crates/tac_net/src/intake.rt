@@ -1,5 +1,6 @@
 //! Where new connections go.
 
+use crate::misfits::Misfits;
 use crate::packet_memory::PacketMemory;
 use crate::peer::Peer;
 use crate::poller::{Poller, WOKEN};
@@ -54,6 +55,7 @@ pub(crate) struct Intake {
     census: Mutex<Census>,
     packet_memory: PacketMemory,
     turned_away: TurnedAway,
+    misfits: Misfits,
     // how many connections may still be handed to workers
     left: AtomicU64,
 }
@@ -66,6 +68,7 @@ impl Drop for Intake {
             census: _,
             packet_memory: _,
             turned_away: _,
+            misfits: _,
             left: _,
         } = self;
     }
@@ -111,6 +114,7 @@ impl Intake {
             census: Mutex::new(Census::new(alloc, settings.connections_at_once)),
             packet_memory: PacketMemory::new(settings.packet_memory),
             turned_away: TurnedAway::new(),
+            misfits: Misfits::new(alloc),
             left: AtomicU64::new(0),
         }
     }
@@ -180,6 +184,11 @@ impl Intake {
     /// What is said of connections that are closed as soon as they come.
     pub(crate) fn turned_away(&self) -> &TurnedAway {
         &self.turned_away
+    }
+
+    /// What is said of devices whose packets don't fit their keys.
+    pub(crate) fn misfits(&self) -> &Misfits {
+        &self.misfits
     }
 
     // The worker for one more connection from this address, of which there may be so many, or any

@@ -21,6 +21,7 @@ mod intake;
 mod lead;
 mod lent;
 mod listeners;
+mod misfits;
 mod opening;
 mod packet_memory;
 mod patience;

@@ -103,13 +103,27 @@ pub(crate) fn places_of<R: Wait, J: Run, D: Desk>(
     Ok(places)
 }
 
-// The line of a port that is listened on, if there is one.
-fn push_port(lines: &mut Vec<u8>, port: Option<u16>) -> io::Result<()>
-    ensures { OnOk result (lines.new.items ≡ lines.old.items ++ opening.port_line port) }
+// The line of a port that is listened on, if there is one. Where a vector is written to, an error
+// means that memory ran out.
+fn push_port(
+    lines: &mut Vec<u8>,
+    port: Option<u16>,
+    address: &Option<Bytes>,
+) -> Result<(), AllocError>
+    ensures { OnOk result
+        (lines.new.items ≡ lines.old.items ++ opening.port_line port address.now) }
 {
-    if let Some(port) = port {
-        writeln!(lines, "listening {port}")?;
+    let Some(port) = port else {
+        return Ok(());
+    };
+    if write!(lines, "listening {port}").is_err() {
+        return Err(AllocError);
     }
+    if let Some(address) = address {
+        lines.extend_from_slice(b" at ")?;
+        lines.extend_from_slice(address.as_slice())?;
+    }
+    lines.push(b'\n')?;
     Ok(())
 }
 
@@ -125,16 +139,13 @@ fn push_proxy(lines: &mut Vec<u8>, proxy: &Option<Bytes>) -> Result<(), AllocErr
     Ok(())
 }
 
-// A line for each place that is listened at. Where a vector is written to, an error means that
-// memory ran out.
+// A line for each place that is listened at.
 #[tactic(auto, unfolding(crate::specs::Opening::listening))]
 fn lines_of(alloc: Global, settings: &Settings) -> Result<Vec<u8>, AllocError>
     ensures { IfOk result (λ lines. lines.items ≡ opening.listening settings.now) }
 {
     let mut lines = Vec::new(alloc);
-    if push_port(&mut lines, settings.port).is_err() {
-        return Err(AllocError);
-    }
+    push_port(&mut lines, settings.port, &settings.address)?;
     push_proxy(&mut lines, &settings.proxy)?;
     Ok(lines)
 }

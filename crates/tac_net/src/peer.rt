@@ -1,16 +1,15 @@
 //! The other end of a connection.
 
 use std::net::SocketAddr;
-use tac_proxy::CommonName;
+use tac_proxy::Certificate;
 
 /// How a connection came.
 #[derive(Clone, Copy)]
 pub enum Way {
     /// At the port.
     Port,
-    /// At the proxy's socket. The proxy has told the name of the device's certificate, if it knows
-    /// one.
-    Proxy(Option<CommonName>),
+    /// At the proxy's socket. The proxy has told this of the device's certificate.
+    Proxy(Certificate),
 }
 
 /// The other end of a connection: the device's address and port, and how it came.

@@ -9,6 +9,8 @@ use tac_forum::Limits;
 pub struct Settings {
     /// The number of the port that is listened on, if there is one, which is printed.
     pub port: Option<u16>,
+    /// The address that it is listened on at, which is printed too; none where it is every one.
+    pub address: Option<Bytes>,
     /// The path of the socket at which a proxy calls, if there is one, which is printed.
     pub proxy: Option<Bytes>,
     /// Which devices may call, each by the key that it shares with the server, or by a proxy.
@@ -43,6 +45,7 @@ impl Drop for Settings {
     fn drop(self) {
         let Settings {
             port: _,
+            address: _,
             proxy: _,
             callers: _,
             workers: _,

@@ -50,6 +50,7 @@ pub(crate) struct TurnedAway {
     unknown_device: Untold,
     no_key: Untold,
     no_tls: Untold,
+    no_certificate: Untold,
     other_certificate: Untold,
     bad_header: Untold,
     crowded: Untold,
@@ -63,6 +64,7 @@ impl Drop for TurnedAway {
             unknown_device: _,
             no_key: _,
             no_tls: _,
+            no_certificate: _,
             other_certificate: _,
             bad_header: _,
             crowded: _,
@@ -78,7 +80,7 @@ fn origin(
     named: Option<Named>,
 ) -> Result<Origin, AllocError> {
     match address {
-        Some(address) => origin_of(alloc, address, named),
+        Some(address) => origin_of(alloc, &address, &named),
         None => Ok(Origin {
             device: Bytes::from_slice(alloc, b"proxy")?,
             named,
@@ -113,6 +115,7 @@ fn rejection(why: WhyTurnedAway) -> Rejection {
         WhyTurnedAway::UnknownDevice => Rejection::UnknownDevice,
         WhyTurnedAway::NoKey => Rejection::NoKey,
         WhyTurnedAway::NoTls => Rejection::NoTls,
+        WhyTurnedAway::NoCertificate => Rejection::NoCertificate,
         WhyTurnedAway::OtherCertificate => Rejection::OtherCertificate,
         WhyTurnedAway::BadProxyHeader => Rejection::BadProxyHeader,
         WhyTurnedAway::TooManyConnections => Rejection::PerAddress,
@@ -125,6 +128,7 @@ fn complaint(why: WhyTurnedAway) -> &'static str {
         WhyTurnedAway::UnknownDevice => "unknown device",
         WhyTurnedAway::NoKey => "the device has no key",
         WhyTurnedAway::NoTls => "the device may not come by a proxy",
+        WhyTurnedAway::NoCertificate => "the proxy verified no certificate of the device",
         WhyTurnedAway::OtherCertificate => "the device has a certificate of another name",
         WhyTurnedAway::BadProxyHeader => "bad proxy header",
         WhyTurnedAway::TooManyConnections => "too many connections",
@@ -138,6 +142,7 @@ impl TurnedAway {
             unknown_device: Untold::new(),
             no_key: Untold::new(),
             no_tls: Untold::new(),
+            no_certificate: Untold::new(),
             other_certificate: Untold::new(),
             bad_header: Untold::new(),
             crowded: Untold::new(),
@@ -150,6 +155,7 @@ impl TurnedAway {
             WhyTurnedAway::UnknownDevice => &self.unknown_device,
             WhyTurnedAway::NoKey => &self.no_key,
             WhyTurnedAway::NoTls => &self.no_tls,
+            WhyTurnedAway::NoCertificate => &self.no_certificate,
             WhyTurnedAway::OtherCertificate => &self.other_certificate,
             WhyTurnedAway::BadProxyHeader => &self.bad_header,
             WhyTurnedAway::TooManyConnections => &self.crowded,
@@ -202,7 +208,7 @@ impl TurnedAway {
         self.tell(premises, Some(address), refused);
     }
 
-    /// What a proxy told first is no header.
+    /// What a proxy told first is no header, or tells of no caller.
     pub(crate) fn refuse_header<R, J: Run, D: Desk, L: Log>(
         &self,
         premises: &Premises<'_, R, J, D, L>,

@@ -4,17 +4,18 @@ ghost use Rattle.std.specs.Prelude.{◌≡◌, IfOk};
 ghost use Rattle.tac_net.specs.Connections.{TellsLog};
 ghost use Rattle.tac_net.specs.Witness as witness;
 
+use crate::misfits::Misfits;
 use crate::visits::Visits;
 use basics::Bytes;
 use std::alloc::{AllocError, Global};
-use std::net::SocketAddr;
+use std::net::{IpAddr, SocketAddr};
 use std::sync::Wait;
 use std::time::Clock;
 use tac_audit::{Named, Notice, Origin, Refused, Witness};
 use tac_authen::AuthenStatus;
 use tac_conn::{Reply, ReplyBody};
 use tac_journal::{DeviceLog, Log, LogFiles, LogWriter, Moments};
-use tac_status::RequestCounts;
+use tac_status::{Request, RequestCounts};
 
 /// What the last reply of a connection does.
 #[derive(Clone, Copy, PartialEq, Eq)]
@@ -27,11 +28,22 @@ enum Last {
     Other,
 }
 
+/// Whom standard error is told of where the first packet of a connection doesn't fit its key.
+#[derive(Drop)]
+struct Newcomer<'a> {
+    misfits: &'a Misfits,
+    address: IpAddr,
+    named: Option<Named>,
+}
+
 /// Who is told of the packets of one connection, each before its reply is sent: the auditor's log,
-/// where one is kept. What that takes is counted. It knows what the last reply does.
+/// where one is kept. What that takes is counted. It knows what the last reply does, and who has
+/// sent nothing yet.
 #[derive(Drop)]
 pub(crate) struct DeviceWitness<'a, R, L> {
+    rt: &'a R,
     log: Option<DeviceLog<'a, R, LogWriter<'a, R, L>>>,
+    newcomer: Option<Newcomer<'a>>,
     counts: &'a RequestCounts,
     visits: &'a Visits,
     last: Last,
@@ -53,23 +65,40 @@ fn last_of(reply: &Reply) -> Last {
 /// listed.
 pub(crate) fn origin_of(
     alloc: Global,
-    address: SocketAddr,
-    named: Option<Named>,
+    address: &SocketAddr,
+    named: &Option<Named>,
 ) -> Result<Origin, AllocError>
-    ensures { IfOk result (λ origin. origin.named ≡ named) }
+    ensures { IfOk result (λ origin. origin.named ≡ named.now) }
 {
     let text = format!(in alloc; "{address}")?;
     let device = Bytes::from_slice(alloc, text.as_bytes())?;
-    Ok(Origin { device, named })
+    Ok(Origin {
+        device,
+        named: *named,
+    })
 }
 
-/// What a connection is told by: what counts its requests, when lines are told, and what its socket
-/// is told.
+/// What a connection is told by: what counts its requests, when lines are told, what its socket is
+/// told, and where it has a key, what is said of those whose packets don't fit theirs.
 #[derive(Clone, Copy)]
 pub(crate) struct Told<'a> {
     pub(crate) counts: &'a RequestCounts,
     pub(crate) moments: &'a Moments,
     pub(crate) visits: &'a Visits,
+    pub(crate) misfits: Option<&'a Misfits>,
+}
+
+// Of whom it is told that the first packet doesn't fit the key: nobody without one.
+fn newcomer_of<'a>(
+    misfits: Option<&'a Misfits>,
+    address: &SocketAddr,
+    named: &Option<Named>,
+) -> Option<Newcomer<'a>> {
+    Some(Newcomer {
+        misfits: misfits?,
+        address: address.ip(),
+        named: *named,
+    })
 }
 
 impl<'a, R, L: Log> DeviceWitness<'a, R, L>
@@ -91,19 +120,25 @@ where
             counts,
             moments,
             visits,
+            misfits,
         } = told;
+        let newcomer = newcomer_of(misfits, &address, &named);
         if !log.is_kept() {
             return Ok(DeviceWitness {
+                rt,
                 log: None,
+                newcomer,
                 counts,
                 visits,
                 last: Last::Other,
             });
         }
-        let origin = origin_of(rt.alloc(), address, named)?;
+        let origin = origin_of(rt.alloc(), &address, &named)?;
         let log = DeviceLog::new(rt.alloc(), rt, moments, LogWriter::new(rt, log), origin);
         Ok(DeviceWitness {
+            rt,
             log: Some(log),
+            newcomer,
             counts,
             visits,
             last: Last::Other,
@@ -118,6 +153,22 @@ where
     /// Whether the last reply said that a login failed.
     pub(crate) fn has_failed(&self) -> bool {
         self.last == Last::Fails
+    }
+
+    // Something was told: if it is of a first packet whose body is none of its type, its key isn't
+    // the device's (RFC 8907, section 4.5).
+    fn judge_first(&mut self, notice: &Notice)
+        ensures { self.new.log ≡ self.old.log }
+    {
+        let Some(newcomer) = self.newcomer.take() else {
+            return;
+        };
+        if Request::of(notice) == Some(Request::BadBody) {
+            self.counts.note_misfit();
+            newcomer
+                .misfits
+                .tell(self.rt, newcomer.address, newcomer.named);
+        }
     }
 
     // Something was told: the last reply is as it was where there is no other.
@@ -146,6 +197,7 @@ where
             log.tell(notice)?;
         }
         self.counts.note(notice);
+        self.judge_first(notice);
         self.follow(notice);
         Ok(())
     }

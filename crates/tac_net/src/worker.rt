@@ -8,8 +8,9 @@ ghost use Rattle.tac_net.specs.Connections.{HasServed};
 use crate::acceptor::Acceptor;
 use crate::callers::Caller;
 use crate::departing::{Parting, departure};
-use crate::intake::Arrival;
+use crate::intake::{Arrival, Intake};
 use crate::lead::Lead;
+use crate::misfits::Misfits;
 use crate::peer::Peer;
 use crate::poller::{CALLED, CALLED_BY_PROXY, Poller, WOKEN, greeting_of, lead_key, lead_of};
 use crate::premises::Premises;
@@ -135,6 +136,14 @@ fn terms_of<'a, R: AllocGlobal, J: Run, D: Desk, L>(
     };
     let Caller { door, named } = found.caller(&peer.way, shown);
     Some((terms_by(premises, door), named))
+}
+
+// What is said of those whose packets don't fit their keys; nothing where packets come in clear.
+fn misfits_of<'a>(intake: &'a Intake, door: &Door) -> Option<&'a Misfits> {
+    match door {
+        Door::Padded(_) => Some(intake.misfits()),
+        Door::Clear => None,
+    }
 }
 
 // A connection from this address, which this worker had, is gone.
@@ -316,6 +325,7 @@ where
             settings,
             log,
             counts,
+            intake,
             ..
         } = *self.premises;
         let Some((terms, named)) = terms_of(self.premises, lead.peer, shown) else {
@@ -325,6 +335,7 @@ where
             counts: &counts.requests,
             moments: self.moments,
             visits: self.visits,
+            misfits: misfits_of(intake, terms.door),
         };
         let Ok(witness) = DeviceWitness::new(rt, log, told, lead.peer.address, named) else {
             return Err(Departure::Memory);

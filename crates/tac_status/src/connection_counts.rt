@@ -11,9 +11,11 @@ pub enum Rejection {
     NoKey,
     /// Its device may not come by a proxy.
     NoTls,
+    /// Its device may come by a proxy, which verified no certificate of it.
+    NoCertificate,
     /// Its device may come by a proxy, with a certificate of another name.
     OtherCertificate,
-    /// What the proxy told isn't a header.
+    /// What the proxy told isn't a header, or tells of no caller.
     BadProxyHeader,
     /// There are as many as may be at once.
     AtOnce,
@@ -58,10 +60,11 @@ pub enum Departure {
 
 impl Rejection {
     /// All of them, in the order in which they are told.
-    pub const ALL: [Rejection; 9] = [
+    pub const ALL: [Rejection; 10] = [
         Rejection::UnknownDevice,
         Rejection::NoKey,
         Rejection::NoTls,
+        Rejection::NoCertificate,
         Rejection::OtherCertificate,
         Rejection::BadProxyHeader,
         Rejection::AtOnce,
@@ -76,6 +79,7 @@ impl Rejection {
             Rejection::UnknownDevice => "unknown_device",
             Rejection::NoKey => "no_key",
             Rejection::NoTls => "no_tls",
+            Rejection::NoCertificate => "no_certificate",
             Rejection::OtherCertificate => "other_certificate",
             Rejection::BadProxyHeader => "bad_proxy_header",
             Rejection::AtOnce => "at_once",
@@ -91,6 +95,7 @@ impl Rejection {
         match self {
             Rejection::NoKey
             | Rejection::NoTls
+            | Rejection::NoCertificate
             | Rejection::OtherCertificate
             | Rejection::BadProxyHeader => true,
             Rejection::UnknownDevice
@@ -145,6 +150,7 @@ struct Rejected {
     unknown_device: Count,
     no_key: Count,
     no_tls: Count,
+    no_certificate: Count,
     other_certificate: Count,
     bad_proxy_header: Count,
     at_once: Count,
@@ -176,6 +182,7 @@ impl Rejected {
             unknown_device: Count::new(),
             no_key: Count::new(),
             no_tls: Count::new(),
+            no_certificate: Count::new(),
             other_certificate: Count::new(),
             bad_proxy_header: Count::new(),
             at_once: Count::new(),
@@ -190,6 +197,7 @@ impl Rejected {
             Rejection::UnknownDevice => &self.unknown_device,
             Rejection::NoKey => &self.no_key,
             Rejection::NoTls => &self.no_tls,
+            Rejection::NoCertificate => &self.no_certificate,
             Rejection::OtherCertificate => &self.other_certificate,
             Rejection::BadProxyHeader => &self.bad_proxy_header,
             Rejection::AtOnce => &self.at_once,

@@ -248,6 +248,13 @@ fn write_status(out: &mut Vec<u8>, counts: &Counts, present: &Present) -> io::Re
     )?;
     write_answered(out, &counts.requests)?;
     write_refused(out, &counts.requests)?;
+    write_number(
+        out,
+        Kind::Counter,
+        "tacd_connections_other_key_total",
+        "Connections whose first packet didn't fit the key.",
+        counts.requests.misfits(),
+    )?;
     write_desk(out, &counts.desk, present.records_limit)?;
     write_log(out, present)?;
     write_number(

@@ -127,6 +127,7 @@ pub struct RequestCounts {
     bad_header: Count,
     unserved_type: Count,
     unanswered: Count,
+    misfits: Count,
 }
 
 impl RequestCounts {
@@ -143,6 +144,7 @@ impl RequestCounts {
             bad_header: Count::new(),
             unserved_type: Count::new(),
             unanswered: Count::new(),
+            misfits: Count::new(),
         }
     }
 
@@ -167,6 +169,16 @@ impl RequestCounts {
         if let Some(request) = Request::of(notice) {
             self.count(request).add(1);
         }
+    }
+
+    /// The first packet of a connection had a body that is none of its type, as under another key.
+    pub fn note_misfit(&self) {
+        self.misfits.add(1);
+    }
+
+    /// How many connections began so.
+    pub fn misfits(&self) -> u64 {
+        self.misfits.get()
     }
 
     /// How many there were of these.

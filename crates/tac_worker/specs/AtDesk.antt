@@ -1,15 +1,12 @@
 -- What a seat of a desk that many share has done for a connection.
-use Rattle.std.proofs.Common.{List, [], Option, refl, sym, append-nil}
+use Rattle.std.proofs.Common.{[], refl, sym, append-nil}
 use Rattle.std.proofs.lemmas.List.Elements.{All-nil}
-use Rattle.tac_wire.specs.declared.door.Door.{Door}
 use Rattle.tac_conn.specs.declared.ask.Ask.{Ask}
-use Rattle.tac_audit.specs.declared.notice.Notice.{Notice}
 use Rattle.tac_forum.specs.History.{Opening}
 use Rattle.tac_forum.specs.Seat.{Seated, IsMade, CatchesUp, IsRefused}
 use Rattle.tac_hall.specs.declared.call.Call.TheVariants as calls
 use Rattle.tac_hall.specs.declared.fault.HallFault.{HallFault}
-use Rattle.tac_worker.specs.declared.worked.End.{End}
-use Rattle.tac_worker.specs.Worked.{Exchange, receipt_for, AreAllMade, Traffic, IsServedBy}
+use Rattle.tac_worker.specs.Worked.{Exchange, receipt_for}
 
 -- others did something, and then it made this exchange, and nothing else
 abbrev pub MakesOne : Opening → Seated → Exchange → Seated → Type 0
@@ -30,10 +27,3 @@ rests_so seat = record {
 -- it is refused a call of this ask so, after what it has seen
 abbrev pub Refuses : Opening → Seated → Ask → HallFault → Type 0
 Refuses opening seat ask fault = IsRefused opening seat (calls.Ask ask) fault
-
--- a connection was served by calls of this seat, and its witness was told so
-abbrev pub IsServedAt : Opening → End → Door → Seated → Seated
-    → (List Notice → Option Notice → Type 0) → Traffic → Type 0
-IsServedAt opening end door was now are_told traffic =
-    IsServedBy end door (λ made. AreAllMade (MakesOne opening) CatchesUp was made now)
-    (Refuses opening now) are_told traffic

@@ -40,6 +40,8 @@ impl Source for Nothing {
     fn reload_devices(&self, alloc: Global) -> Result<Bytes, AllocError> {
         no_devices(alloc)
     }
+
+    fn warn(&self, _line: &[u8]) {}
 }
 
 // What happens at a console: the limits of its desk, whether another seat has stopped that before, how

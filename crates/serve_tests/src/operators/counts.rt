@@ -21,7 +21,7 @@ fn present(has_proxy: bool) -> Present {
 }
 
 // Connections that came and have ended, one by the first fate, two by the next, and so on, and one more
-// that is there. So some were rejected.
+// that is there. So some were rejected. Two had another key.
 fn counts() -> Counts {
     let counts = Counts::new();
     let mut many = 1_u64;
@@ -40,6 +40,8 @@ fn counts() -> Counts {
         many = many.saturating_add(1);
     }
     counts.connections.accept();
+    counts.requests.note_misfit();
+    counts.requests.note_misfit();
     counts
 }
 
@@ -85,12 +87,13 @@ tacd_connections_ended_total{why=\"server\"} 13
 tacd_connections_refused_total{why=\"unknown_device\"} 1
 tacd_connections_refused_total{why=\"no_key\"} 2
 tacd_connections_refused_total{why=\"no_tls\"} 3
-tacd_connections_refused_total{why=\"other_certificate\"} 4
-tacd_connections_refused_total{why=\"bad_proxy_header\"} 5
-tacd_connections_refused_total{why=\"at_once\"} 6
-tacd_connections_refused_total{why=\"per_address\"} 7
-tacd_connections_refused_total{why=\"served\"} 8
-tacd_connections_refused_total{why=\"memory\"} 9
+tacd_connections_refused_total{why=\"no_certificate\"} 4
+tacd_connections_refused_total{why=\"other_certificate\"} 5
+tacd_connections_refused_total{why=\"bad_proxy_header\"} 6
+tacd_connections_refused_total{why=\"at_once\"} 7
+tacd_connections_refused_total{why=\"per_address\"} 8
+tacd_connections_refused_total{why=\"served\"} 9
+tacd_connections_refused_total{why=\"memory\"} 10
 # HELP tacd_devices Devices that are listed; 0 where one key is for all.
 # TYPE tacd_devices gauge
 tacd_devices 8
@@ -109,6 +112,9 @@ tacd_requests_refused_total{why=\"bad_body\"} 0
 tacd_requests_refused_total{why=\"bad_header\"} 0
 tacd_requests_refused_total{why=\"unserved_type\"} 0
 tacd_requests_refused_total{why=\"unanswered\"} 0
+# HELP tacd_connections_other_key_total Connections whose first packet didn't fit the key.
+# TYPE tacd_connections_other_key_total counter
+tacd_connections_other_key_total 2
 # HELP tacd_records Accounting records that are kept.
 # TYPE tacd_records gauge
 tacd_records 0
@@ -150,20 +156,36 @@ fn all_lines_are_told(rt: HostRuntime) -> Result<(), Fail> {
     Ok(())
 }
 
-// Whether the refusals of proxies are among the lines.
-fn tells_of_proxies(alloc: Global, counts: &Counts, has_proxy: bool) -> Result<bool, Fail> {
+const OF_PROXIES: [&str; 5] = [
+    "\"no_key\"",
+    "\"no_tls\"",
+    "\"no_certificate\"",
+    "\"other_certificate\"",
+    "\"bad_proxy_header\"",
+];
+
+// How many of the refusals of proxies are among the lines.
+fn told_of_proxies(alloc: Global, counts: &Counts, has_proxy: bool) -> Result<u32, Fail> {
     let text = status_text(alloc, counts, &present(has_proxy))?;
-    Ok(str::from_utf8(text.as_slice())?.contains("no_key"))
+    let text = str::from_utf8(text.as_slice())?;
+    let mut many = 0_u32;
+    for why in OF_PROXIES {
+        if text.contains(why) {
+            many = many.saturating_add(1);
+        }
+    }
+    Ok(many)
 }
 
 // They are where there is a socket for a proxy, or where one of them isn't 0.
 #[test]
 fn refusals_of_proxies(rt: HostRuntime) -> Result<(), Fail> {
     let (alloc, counts) = (rt.alloc(), Counts::new());
-    let is_silent = !tells_of_proxies(alloc, &counts, false)?;
-    let is_told = tells_of_proxies(alloc, &counts, true)?;
-    counts.connections.reject(Rejection::NoTls);
-    assert!(rt; is_silent && is_told && tells_of_proxies(alloc, &counts, false)?);
+    let without = told_of_proxies(alloc, &counts, false)?;
+    let with = told_of_proxies(alloc, &counts, true)?;
+    counts.connections.reject(Rejection::NoCertificate);
+    let met = told_of_proxies(alloc, &counts, false)?;
+    assert!(rt; [without, with, met] == [0, 5, 5]);
     Ok(())
 }
 

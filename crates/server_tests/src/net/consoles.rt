@@ -38,11 +38,14 @@ impl Source for Nothing {
     fn reload_devices(&self, alloc: Global) -> Result<Bytes, AllocError> {
         no_devices(alloc)
     }
+
+    fn warn(&self, _line: &[u8]) {}
 }
 
 fn settings_of(port: u16, workers: u32) -> Result<Settings, Fail> {
     Ok(Settings {
         port: Some(port),
+        address: None,
         proxy: None,
         callers: Callers::Any(KeyDoor::new(key()?)),
         workers,

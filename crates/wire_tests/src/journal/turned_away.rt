@@ -119,6 +119,8 @@ const BY_A_PROXY: &str = "\
 {\"time\":\"1970-01-01T00:00:01.500Z\",\"device\":\"192.0.2.130:40000\",\"name\":\"access\",\
 \"tls\":null,\"type\":\"refused\",\"why\":\"no tls\",\"count\":1}
 {\"time\":\"1970-01-01T00:00:01.500Z\",\"device\":\"192.0.2.130:40000\",\"name\":\"access\",\
+\"tls\":null,\"type\":\"refused\",\"why\":\"no certificate\",\"count\":1}
+{\"time\":\"1970-01-01T00:00:01.500Z\",\"device\":\"192.0.2.130:40000\",\"name\":\"access\",\
 \"tls\":\"core-1\",\"type\":\"refused\",\"why\":\"other certificate\",\"count\":1}
 {\"time\":\"1970-01-01T00:00:01.500Z\",\"device\":\"proxy\",\
 \"type\":\"refused\",\"why\":\"bad proxy header\",\"count\":1}
@@ -129,12 +131,13 @@ fn refusals_where_there_is_a_proxy(rt: HostRuntime) -> Result<(), Fail> {
     let alloc = rt.alloc();
     let name = CommonName::read(b"core-1").ok_or("no name")?;
     let mut log = Few {
-        left: 4,
+        left: 5,
         taken: Vec::new(alloc),
     };
     for (came_by, why) in [
         (CameBy::Key, WhyTurnedAway::NoKey),
         (CameBy::Tls(None), WhyTurnedAway::NoTls),
+        (CameBy::Tls(None), WhyTurnedAway::NoCertificate),
         (CameBy::Tls(Some(name)), WhyTurnedAway::OtherCertificate),
     ] {
         logs_one(&rt, &mut log, device(alloc, came_by)?, why)?;
