@@ -38,6 +38,7 @@ BOTH_KEYS = f"{ONE}old-key {OLD.decode()}\n"
 OTHERS = f"device others\nat 127.0.0.0/30\nkey {THIRD.decode()}\n"
 STRANGER = "127.0.0.9"
 UNKNOWN = f"tacd: {STRANGER}: unknown device, its connection is closed\n"
+MISFIT = "tacd: 127.0.0.1: device one, its packets don't fit the key\n"
 POLICY = "group ops\npermit show .*\nuser bob in ops\nlogin blue-lake\n"
 
 # A login by PAP, as bob.
@@ -52,6 +53,10 @@ def cases(name):
     for play in (
         devices_are_named,
         an_old_key_is_taken,
+        packets_that_fit_no_key,
+        one_key_that_packets_dont_fit,
+        a_flood_of_misfits,
+        a_doubtful_key_counts_as_it_stands,
         a_first_packet_in_pieces,
         a_first_packet_that_never_comes,
         so_many_connections_of_an_address,
@@ -109,7 +114,7 @@ def devices_are_named(program):
         head = ["device", "name", "session"]
         wanted = [(head, "one", "command"), (head, "others", "account"), (head, "one", "refused")]
         require(told == wanted, f"the log has {told}")
-        ends(program, server)
+        ends(program, server, MISFIT)
     with Server(program, "--log", "log") as server:
         require(is_permitted(server), "bob isn't permitted")
         server.quits()
@@ -135,7 +140,116 @@ def an_old_key_is_taken(program):
             require(told == wanted, f"{options}: the log has {told}")
             heads = {tuple(event)[1:4] for event in events(server) if "key" in event}
             require(heads == {("device", "name", "key")}, f"{options}: the log has {heads}")
-            ends(program, server)
+            ends(program, server, MISFIT)
+
+
+def misfits(program, server):
+    """How many connections `status` counts whose first packet didn't fit."""
+    lines = typed(program, server, "status").splitlines()
+    told = [line for line in lines if line.startswith("tacd_connections_other_key_total ")]
+    require(len(told) == 1, f"it tells {told}")
+    return int(told[0].split()[1])
+
+
+def is_refused_under(server, source, key, own):
+    """Whether a first packet under this key is told to be none, under the device's own."""
+    with connect(server, source) as device:
+        refusal = packet(BAD_BODY, own)
+        return answer(device, packet(ASK, key, flag=CLOSING), len(refusal)) == refusal
+
+
+def packets_that_fit_no_key(program):
+    """Each device is told of once a minute, by its address and name, and all its connections are
+    counted. What comes after a first packet that fits isn't told, nor is a header that is refused.
+    The log has the same lines as without."""
+    with serving(program, BOTH_KEYS + OTHERS) as server:
+        for key in (NEW, OLD):
+            require(asks(server, "127.0.0.1", key), f"one isn't answered under {key}")
+        with connect(server, "127.0.0.2") as device:
+            require(is_answered(device, ASK, PERMITTED, key=THIRD, flag=KEPT), "isn't answered")
+            refusal = packet(BAD_BODY.replace("c0020200", "c0020204"), THIRD)
+            came = answer(device, packet(ASK, NEW, flag=KEPT), len(refusal))
+            require(came == refusal, f"another key after its own is answered by {came}")
+        with connect(server, "127.0.0.2") as device:
+            device.sendall(bytes.fromhex("d0010100fedcba9800000000"))
+            require(is_closed(device, SOON), "a bad header is taken")
+        require(misfits(program, server) == 0, "devices are counted that have their key")
+        for source, key, own in (
+            ("127.0.0.1", THIRD, NEW),
+            ("127.0.0.1", b"fourth", NEW),
+            ("127.0.0.2", OLD, THIRD),
+            ("127.0.0.1", THIRD, NEW),
+            ("127.0.0.2", NEW, THIRD),
+        ):
+            require(is_refused_under(server, source, key, own), f"{source}: {key} isn't refused")
+        require(misfits(program, server) == 5, "they aren't counted")
+        told = [event for event in events(server) if event["type"] == "refused"]
+        whys = [(event["name"], event["why"]) for event in told]
+        one, others = ("one", "bad body"), ("others", "bad body")
+        wanted = [others, ("others", "bad header"), one, one, others, one, others]
+        require(whys == wanted, f"the log has {whys}")
+        ends(program, server, MISFIT + MISFIT.replace("1: device one", "2: device others"))
+
+
+def one_key_that_packets_dont_fit(program):
+    """Without a devices' file the address alone is told. An address that came as IPv6 is told as it
+    is looked up."""
+    for options in ((), ("--address", "::")):
+        with Server(program, "--console", "console", *options, policy=POLICY) as server:
+            require(is_permitted(server), "bob isn't permitted")
+            for _ in range(2):
+                with connect(server, "127.0.0.1") as device:
+                    refusal = packet(BAD_BODY)
+                    came = answer(device, packet(ASK, THIRD, flag=CLOSING), len(refusal))
+                    require(came == refusal, f"{options}: it is answered by {came}")
+            require(misfits(program, server) == 2, "they aren't counted")
+            typed(program, server, "quit")
+            server.ends(complained="tacd: 127.0.0.1: its packets don't fit the key\n")
+
+
+def a_flood_of_misfits(program):
+    """One that calls again and again hides no other. Of 64 addresses a minute it is said, and of
+    the others counted."""
+    devices = f"device all\nat 127.0.0.0/8\nkey {NEW.decode()}\n"
+    with serving(program, devices, "--per-address", "0") as server:
+        sources = [f"127.0.1.{place}" for place in range(1, 71)]
+        for source in sources:
+            for asking in (source, sources[0], sources[0]):
+                require(is_refused_under(server, asking, OLD, NEW), f"{asking} isn't refused")
+        require(misfits(program, server) == 3 * len(sources), "they aren't counted")
+        told = (MISFIT.replace("127.0.0.1: device one", f"{at}: device all") for at in sources[:64])
+        ends(program, server, "".join(told))
+
+
+def a_doubtful_key_counts_as_it_stands(program):
+    """To the byte, in a key's file as in one of devices, also an old one. A start says the doubt, and
+    never the key; a file that is read again says nothing."""
+    other = "wide-kelp-forest-0092"
+    for key, told in (
+        ("tundra and taiga ", "a key with a blank at an end, which is part of it"),
+        ('"tundra and taiga"', "a key in quotes, which are part of it"),
+        ("tundra and taiga # all", "a key with '#' after a blank: no comment, but part of it"),
+        ("= tundra and taiga", "a key that begins with 'key =' or '= ', which is part of it"),
+        ("7 0205050D48080902", "a key that looks like Cisco's type 7: it is taken as it stands"),
+        ("tttttttttttttttttt", "a key of one character, alone or repeated"),
+    ):
+        new = f"device one\nat 127.0.0.1\nkey {key}\n"
+        old = f"device one\nat 127.0.0.1\nkey {other}\nold-key {key}\n"
+        for option, text, place in (
+            ("--key-file", f"{key}\n", ""),
+            ("--devices", new, "line 3: "),
+            ("--devices", old, "line 4: "),
+        ):
+            words = {"key": (option, "devices"), "devices": text, "policy": POLICY}
+            with Server(program, "--console", "console", **words) as server:
+                with connect(server, "127.0.0.1") as device:
+                    sent = {"key": key.encode(), "flag": CLOSING}
+                    asked = is_answered(device, ASK, PERMITTED, **sent)
+                    require(asked, f"{option}: it isn't answered under {key!r}")
+                if option == "--devices":
+                    typed(program, server, "reload devices")
+                typed(program, server, "quit")
+                server.ends(complained=f"tacd: devices: {place}{told}\n")
 
 
 def a_first_packet_in_pieces(program):
@@ -178,12 +292,12 @@ def a_first_packet_that_never_comes(program):
 def so_many_connections_of_an_address(program):
     """Each address of a device may have as many as the file says, whatever the option is, and where
     it says nothing as many as the option."""
-    devices = f"{OTHERS}connections 3\n{ONE}device two\nat 127.0.0.2\nkey {THIRD.decode()}\n"
+    devices = f"{OTHERS}connections 3\n{ONE}device two\nat 127.0.0.2\nkey {OLD.decode()}\n"
     with serving(program, devices, "--per-address", "2") as server:
         for source, key, count in (
             ("127.0.0.3", THIRD, 3),
             ("127.0.0.1", NEW, 2),
-            ("127.0.0.2", THIRD, 2),
+            ("127.0.0.2", OLD, 2),
         ):
             with contextlib.ExitStack() as stack:
                 for number in range(count):
@@ -266,7 +380,7 @@ def devices_are_read_again(program):
         require(asks(server, STRANGER, OLD), "who was added isn't answered")
         told = typed(program, server, "status")
         require("\ntacd_devices 2\n" in told, f"it tells {told}")
-        ends(program, server, UNKNOWN)
+        ends(program, server, UNKNOWN + MISFIT)
 
 
 def a_device_is_taken_out_in_its_first_packet(program):

@@ -71,7 +71,7 @@ def cases(name):
 
 def key_file(length, complained):
     """A server whose key's file is so long, and whose policy's file isn't there."""
-    key = File("key", b"k \n".ljust(length, b"x"), 0o600)
+    key = File("key", b"tundra\n".ljust(length, b"x"), 0o600)
     run = Run(("serve", "--port", "1", "--key-file", "key", "nobody"), b"", (key,))
     return Check(run, Outcome(b"", complained, 4), "the start of a server")
 

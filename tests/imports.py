@@ -8,7 +8,9 @@ import tempfile
 from cases import Case, Check, Outcome, Play, Wrong
 
 # What is told of something that was left out ends so.
-LEFT_OUT = (": left out", "is left out and denied", "is denied from here on")
+LEFT_OUT = (
+    ": left out", "reading is left out", "is left out and denied", "is denied from here on",
+)
 LONGEST_RUN = 60
 
 

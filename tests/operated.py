@@ -10,11 +10,14 @@ import pathlib
 import select
 import signal
 import socket
+import subprocess
+import tempfile
 import time
 
 from cases import Case, Check, Outcome, Play
 from served import (
     ASK,
+    BLANK,
     DENIED,
     FDATASYNC,
     KEPT,
@@ -32,6 +35,7 @@ from served import (
     is_answered,
     packet,
     require,
+    typed,
     types,
 )
 
@@ -45,6 +49,9 @@ def cases(name):
         many_lines,
         how_an_input_ends,
         other_policies,
+        users_who_are_gone,
+        a_policy_of_nobody,
+        files_of_any_name,
         other_devices,
         no_memory_for_devices,
         an_input_that_fails,
@@ -52,6 +59,8 @@ def cases(name):
         logged_before_it_is_answered,
         answered_where_the_log_fails,
         operators_who_share_a_console,
+        a_service_that_is_refused,
+        a_place_that_is_taken,
         eight_operators,
         a_busy_console,
         how_a_server_is,
@@ -60,6 +69,10 @@ def cases(name):
         no_room_for_records,
         edits_are_kept,
         a_store_that_is_full,
+        what_is_no_place_for_edits,
+        what_becomes_no_place_for_edits,
+        what_lies_beside,
+        one_server_to_a_file,
     ):
         expected = Outcome(b"", b"", 0)
         yield Case(f"{name}: {play.__name__}", [Check(Play(play), expected, "its console was used")])
@@ -98,11 +111,11 @@ def events(server):
     return list(map(json.loads, pathlib.Path(server.folder.name, "log").read_text().splitlines()))
 
 
-def converses(program, talk, *options, **more):
+def converses(program, talk, *options, complained="", **more):
     """A conversation at standard input, whose lines after `> ` are typed one after another, each once
     the one before is answered. Those after `< ` are FILE's from then on, and those after `<< ` the
-    devices' file's. The log has each line with its whole answer. If no file changes, the same comes
-    where all lines are typed at once."""
+    devices' file's. The log has each line with its whole answer, and standard error the complaints. If
+    no file changes, the same comes where all lines are typed at once."""
     told = exchanges(talk)
     with Server(program, "--log", "log", *options, **more) as server:
         starts(server)
@@ -112,7 +125,7 @@ def converses(program, talk, *options, **more):
                 types(server, text, *answers)
             else:
                 replace(server, {"<": "policy", "<<": "devices"}[mark], text)
-        server.ends("quit\n", is_listening=False)
+        server.ends("quit\n", complained=complained, is_listening=False)
         lines = [(line[2:], answers) for line, answers in told if line.startswith(">")]
         logged = [(event["console"], event["answer"]) for event in events(server)]
         require(logged == [*lines, ("quit", [])], f"the log has {logged}")
@@ -409,8 +422,9 @@ def how_an_input_ends(program):
 
 def other_policies(program):
     """What differs is told for each user, those of the new policy in its order, and those who are gone
-    last. Where none may stand nothing changes, and only one that is too large is a call. An open
-    batch stays, and is judged on the policy that there is at its `commit`."""
+    last. Where none may stand nothing changes, and only one that is too large is a call, after the
+    question for the present one. An open batch stays, and is judged on the policy that there is at its
+    `commit`."""
     converses(
         program,
         """
@@ -423,29 +437,22 @@ def other_policies(program):
         permitted by group ops rule 1
         > reload
         ok
-        < group net; permit ping .*; user eve in net; user amy
+        < group net; permit ping .*; user eve in net; user amy; user bob
         > reload
         ok
         |user eve now permits: ping |
         user bob now denies: ping
         > why bob ping
-        unknown user
+        denied by default
         > policy
         policy 2
         group net
         permit ping .*
         user eve in net
         user amy
-        < policy 2
-        > reload
-        ok
-        |user eve now denies: ping |
-        < group ops; permit show .*; user bob in ops
-        > reload
-        ok
-        |user bob now permits: show |
+        user bob
         > rotate
-        rotated 0 entries 8
+        rotated 0 entries 9
         """,
     )
     converses(
@@ -462,7 +469,7 @@ def other_policies(program):
         unread policy: No such file or directory (os error 2)
         > rotate
         rotated 0 entries 0
-        < group ops; deny .*a..............; user bob in ops
+        < group ops; deny .*a..............; user eve in ops
         > reload
         fault TooManyStates group ops
         > why bob show version
@@ -473,7 +480,7 @@ def other_policies(program):
         permit show .*
         user bob in ops
         > rotate
-        rotated 1 entries 3
+        rotated 1 entries 4
         """,
     )
     converses(
@@ -488,6 +495,7 @@ def other_policies(program):
         ok
         |user eve now permits: ping |
         |user bob now denies: show |
+        1 of 1 users are gone
         > commit
         refused at edit 1: 2 NoSuch
         > begin
@@ -497,18 +505,144 @@ def other_policies(program):
         < group ops; deny (
         > reload
         fault line 2 5 BadPattern 3 Unclosed at 0
+        < group ops; permit show .*
+        > reload
+        fault NoUser
         < group ops; permit show .*; user bob in ops
         > reload
         ok
         |user bob now permits: show |
         |user eve now denies: ping |
+        1 of 1 users are gone
         > commit
         ok
         |user bob now denies: show |
         > rotate
+        rotated 0 entries 7
+        """,
+        complained=GONE.format(1, 1) * 2,
+    )
+
+
+GONE = "tacd: policy: {} of {} users are gone\n"
+
+
+def users_who_are_gone(program):
+    """Where fewer than half of the users are there still, by name, a reload says so last, and standard
+    error too: not at half. A group of a user's name is no user, and new users don't count."""
+    converses(
+        program,
+        """
+        < user a; user b; user c; user d; user bob
+        > reload
+        ok
+        |user bob now denies: show |
+        < user a; user b; user e; user g; user h
+        > reload
+        ok
+        3 of 5 users are gone
+        < user a; user b; user e; user i; user j; user k; user l
+        > reload
+        ok
+        < user a; user b; user e; user m; group i; group j; group k; group l
+        > reload
+        ok
+        4 of 7 users are gone
+        < user b; user m; group a; group e; permit x; user n in e
+        > reload
+        ok
+        user n now permits: x
+        < user o; deny .*a..............
+        > reload
+        fault TooManyStates user o
+        < user n; user x; permit x
+        > reload
+        ok
+        user n now denies: x
+        user x now permits: x
+        2 of 3 users are gone
+        """,
+        complained=GONE.format(3, 5) + GONE.format(4, 7) + GONE.format(2, 3),
+    )
+
+
+def a_policy_of_nobody(program):
+    """It isn't taken where the present policy has a user: everyone would be denied, and no device would
+    go on to its own users. Where that has none either it is, as at the start, which standard error
+    tells."""
+    converses(
+        program,
+        """
+        < # nobody
+        > reload
+        fault NoUser
+        < policy 2
+        > reload
+        fault NoUser
+        < group bob; permit show .*; group ops in bob
+        > reload
+        fault NoUser
+        > why bob show x
+        permitted by group ops rule 1
+        > rotate
         rotated 0 entries 4
+        > remove user bob
+        ok
+        |user bob now denies: show |
+        > reload
+        ok
+        < user bob
+        > reload
+        ok
+        < group bob
+        > reload
+        fault NoUser
+        > rotate
+        rotated 1 entries 6
         """,
     )
+    nobody = "tacd: policy: the policy has no user: nobody can log in\n"
+    for policy in ("", "# nobody\n", "group bob\npermit show .*\n"):
+        converses(
+            program,
+            """
+            > reload
+            ok
+            < group ops
+            > reload
+            ok
+            < user bob
+            > reload
+            ok
+            < group ops
+            > reload
+            fault NoUser
+            """,
+            complained=nobody,
+            policy=policy,
+        )
+
+
+def files_of_any_name(program):
+    """An answer names them in one line: a control character is shown as a question mark, and all else
+    as it is."""
+    names = {"file": "new\nok\x1b[2J\r\x7f \t~é", "key": ("--devices", "devices")}
+    shown = "new?ok?[2J?? ?~é"
+    with Server(program, devices=ONE, **names) as server:
+        starts(server)
+        pathlib.Path(server.folder.name, names["file"]).unlink()
+        gone = "No such file or directory (os error 2)"
+        types(server, "reload", f"unread {shown}: {gone}")
+        types(server, "why bob ping", "denied by default")
+        server.ends("quit\n", is_listening=False)
+    named = ("--devices", "of\nok\x1f\x7f~é")
+    rename = lambda: os.rename("devices", named[1])
+    with Server(program, key=named, devices=ONE, before=rename) as server:
+        starts(server)
+        pathlib.Path(server.folder.name, named[1]).unlink()
+        types(server, "reload devices", f"devices unread of?ok??~é: {gone}")
+        types(server, "why bob ping", "denied by default")
+        server.ends("quit\n", is_listening=False)
 
 
 def other_devices(program):
@@ -699,7 +833,7 @@ def operators_who_share_a_console(program):
             busy = ("begin", "drop group ops 1", "commit", "abandon")
             told(ben, *((line, "busy anna") for line in busy))
             told(ben, ("operator ben", "ok"), ("why bob show", "denied by default"))
-            told(ben, ("reload devices", "no devices"), ("reload", "ok"), ("rotate", "rotated 0 entries 3"))
+            told(ben, ("reload devices", "no devices"), ("reload", "ok"), ("rotate", "rotated 0 entries 4"))
             told(ben, ("nonsense", "refused 1 BadEdit"))
             told(anna, ("commit", "ok"))
             told(ben, ("drop group ops 1", "ok"))
@@ -731,6 +865,61 @@ def operators_who_share_a_console(program):
         ("anna", "quit"),
     ]
     require(logged == wanted, f"the log has {logged}")
+
+
+REFUSING = "policy 3\n" + POLICY + "user carla\nrefuse junos-exec\n"
+
+
+def asks_all(program, server, lines):
+    """What a client prints of these lines, by a pipe, and how it ends."""
+    ran = subprocess.run(
+        ["tacd", "console", "console"],
+        executable=program,
+        cwd=server.folder.name,
+        input=lines,
+        capture_output=True,
+        text=True,
+        timeout=LONGEST_WAIT,
+    )
+    return ran.stdout, ran.stderr, ran.returncode
+
+
+def a_service_that_is_refused(program):
+    """That is what `given` tells, and no refusal of the line: alone, in a file and in a batch. A refusal
+    ends the file, and with it the batch."""
+    with attended(program, policy=REFUSING) as server, Operator(server) as operator:
+        refused = "refused by user carla\n"
+        given = "given carla junos-exec"
+        require((came := typed(program, server, given)) == refused, f"it is told {came!r}")
+        for lines, answers in (
+            (f"{given}\nwhy bob ping\n", f"{refused}denied by default\n"),
+            (f"begin\nadd user eve\n{given}\ncommit\n", f"ok\nkept 1\n{refused}ok\n"),
+        ):
+            came = asks_all(program, server, lines)
+            require(came == (answers, "", 0), f"{lines!r} ends by {came}")
+        told(operator, ("why eve ping", "denied by default"))
+        for lines, answers, last in (
+            ("begin\nadd user ann\nnonsense\ncommit\n", "ok\nkept 1\n", "refused 1 BadEdit"),
+            ("begin\nadd user eve\ncommit\nshadow\n", "ok\nkept 1\n", "refused at edit 1: 3 Exists"),
+        ):
+            comes_to(lambda: operator.ask("begin"), "ok")  # once the batch before is dropped
+            told(operator, ("abandon", "ok"))
+            came = asks_all(program, server, lines)
+            said = f"tacd: line 3: {last}; later lines weren't sent\n"
+            require(came == (f"{answers}{last}\n", said, 1), f"{lines!r} ends by {came}")
+        told(operator, ("why ann ping", "unknown user"))
+        stops(server, operator)
+
+
+def a_place_that_is_taken(program):
+    """A socket is made at its path with `.new` after it. What is there in its way is told so."""
+    for make in (lambda: os.makedirs("console.new/x"), lambda: os.close(os.open("console.new", os.O_CREAT))):
+        with Server(program, "--console", "console", before=make) as server:
+            told = "tacd: console: something else is at this path with '.new' after it\n"
+            server.ends(complained=told, status=4, is_listening=False)
+    folder = lambda: os.makedirs("console/x")
+    with Server(program, "--console", "console", before=folder) as server:
+        server.ends(complained="tacd: console: it is no socket\n", status=4, is_listening=False)
 
 
 def eight_operators(program):
@@ -799,7 +988,7 @@ def how_a_server_is(program):
             }
             came = {name: numbers[name] for name in wanted}
             require(came == wanted, f"it tells {came}")
-            stops(server, operator)
+            stops(server, operator, BLANK)
 
 
 def resident(server):
@@ -914,7 +1103,8 @@ class Keeping:
         self.server = attended(program, "--keep-edits", "kept")
         self.operator = Operator(self.server)
         self.kept = pathlib.Path(self.server.folder.name, "kept")
-        self.beside = pathlib.Path(self.server.folder.name, "kept.new")
+        self.policy = pathlib.Path(self.server.folder.name, "policy")
+        self.draft = pathlib.Path(self.server.folder.name, ".kept.tacd-draft")
 
     def __enter__(self):
         return self
@@ -985,7 +1175,7 @@ def edits_are_kept(program):
         stops(keeping.server, keeping.operator)
 
 
-NO_ROOM = "Is a directory (os error 21)"
+NO_ROOM = "it is no regular file"
 NOT_KEPT = f"not kept: {NO_ROOM}\n"
 BEGINS = f"tacd: kept: {NO_ROOM}; edits aren't kept\n"
 IS_OVER = "tacd: kept: edits are kept again\n"
@@ -998,28 +1188,223 @@ def a_store_that_is_full(program):
     ann = eve + "; user ann"
     permitted = "permitted by group ops rule 1"
     with Keeping(program) as keeping:
-        keeping.beside.mkdir()
+        keeping.draft.mkdir()
         keeping.asks("add user eve", f"{NOT_KEPT}ok", None)
         keeping.tells(edits_kept="0", serves_edits="1")
         keeping.asks("why bob show run", permitted, None)
         keeping.asks("drop group ops 9", "refused 7 BadIndex", None)
         keeping.asks("add user ann", f"{NOT_KEPT}ok", None)
-        keeping.beside.rmdir()
+        keeping.draft.rmdir()
         keeping.asks("why bob show run", permitted, ann)
         keeping.tells(edits_kept="1", serves_edits="1")
         # One that can't be removed.
         keeping.kept.unlink()
         keeping.kept.mkdir()
         replace(keeping.server, "policy", "group ops; user bob in ops")
-        keeping.asks("reload", f"{NOT_KEPT}ok\nuser bob now denies: show ", None)
+        loaded = "ok\nuser bob now denies: show \n2 of 3 users are gone"
+        keeping.asks("reload", f"{NOT_KEPT}{loaded}", None)
         keeping.asks("why bob show run", "denied by default", None)
         keeping.tells(edits_kept="0", serves_edits="0")
         keeping.kept.rmdir()
         keeping.asks("why bob show run", "denied by default", None)
         keeping.tells(edits_kept="1", serves_edits="0")
-        keeping.beside.mkdir()
+        keeping.draft.mkdir()
         keeping.asks("add user eve", f"{NOT_KEPT}ok", None)
-        keeping.beside.rmdir()
-        stops(keeping.server, keeping.operator, (BEGINS + IS_OVER) * 2 + BEGINS)
+        keeping.draft.rmdir()
+        gone = "tacd: policy: 2 of 3 users are gone\n"
+        complained = f"{BEGINS}{IS_OVER}{gone}{BEGINS}{IS_OVER}{BEGINS}"
+        stops(keeping.server, keeping.operator, complained)
         came = keeping.kept.read_text()
         require(came == "policy 2\ngroup ops\nuser bob in ops\nuser eve\n", f"it has {came!r}")
+
+
+def lies_in(folder):
+    """Each file of a folder: which it is, its rights and its text, or where it leads; and the names of
+    all else."""
+    found = {}
+    for path in pathlib.Path(folder).iterdir():
+        status = path.lstat()
+        if path.is_symlink():
+            found[path.name] = os.readlink(path)
+        elif path.is_file():
+            found[path.name] = status.st_ino, status.st_mode, path.read_text()
+        else:
+            found[path.name] = status.st_ino
+    return str(sorted(found.items()))
+
+
+def isnt_begun(program, path, why, lay, *options, **more):
+    """A server in whose folder something was laid, and whose edits are to be kept at a path, ends with
+    4. It says what is in its way, and all that lies there stays as it is."""
+    words = ("--console", "console", "--keep-edits", path, *options)
+    with tempfile.NamedTemporaryFile("r") as noted:
+
+        def before():
+            """In the server's folder, before its program begins."""
+            lay(pathlib.Path())
+            pathlib.Path(noted.name).write_text(lies_in("."))
+
+        with Server(program, *words, before=before, **more) as server:
+            server.ends(complained=f"tacd: {why}\n", status=4, is_listening=False)
+            came, wanted = lies_in(server.folder.name), noted.read()
+            require(came == wanted, f"with {path} it leaves {came}, not {wanted}")
+
+
+def nothing(_):
+    """All is as it is."""
+
+
+def links(old, new):
+    """A file has another name too."""
+    return lambda folder: os.link(folder / old, folder / new)
+
+
+def leads(new, old):
+    """A name leads to another one."""
+    return lambda folder: os.symlink(old, folder / new)
+
+
+def writes(name, mode, text="a draft\n"):
+    def lay(folder):
+        path = folder / name
+        path.write_text(text)
+        path.chmod(mode)
+
+    return lay
+
+
+IS_POLICY = "it is the policy's own file"
+IS_KEY = "it is the key's file"
+IS_DEVICES = "it is the devices' file"
+IS_LOG = "it is the log's file"
+IS_CONSOLE = "it is the console's socket"
+NOT_LEFT = "no server left this here"
+DRAFT, LOCK = "./.kept.tacd-draft", "./.kept.tacd-lock"
+
+
+def what_is_no_place_for_edits(program):
+    """A file of another use, by any name, is none, also where it isn't there yet; nor is what isn't a
+    regular file. What lies where a server makes its own files has to be what a server left."""
+    logs = ("--log", "log")
+    named = {"key": ("--devices", "devices"), "devices": ONE}
+    for path, why, lay, options, more in (
+        ("policy", IS_POLICY, nothing, (), {}),
+        ("./policy", IS_POLICY, nothing, (), {}),
+        ("kept", IS_POLICY, links("policy", "kept"), (), {}),
+        ("kept", NO_ROOM, leads("kept", "policy"), (), {}),
+        ("kept", NO_ROOM, lambda folder: (folder / "kept").mkdir(), (), {}),
+        ("key", IS_KEY, nothing, (), {}),
+        ("kept", IS_KEY, links("key", "kept"), (), {}),
+        ("devices", IS_DEVICES, nothing, (), named),
+        ("log", IS_LOG, nothing, logs, {}),
+        ("./log", IS_LOG, writes("log", 0o600), logs, {}),
+        ("here/log", IS_LOG, leads("here", "."), logs, {}),
+        ("console", IS_CONSOLE, nothing, (), {}),
+    ):
+        isnt_begun(program, path, f"{path}: {why}", lay, *options, **more)
+    for lay, why in (
+        (links("policy", DRAFT), f"{DRAFT}: {IS_POLICY}"),
+        (links("key", LOCK), f"{LOCK}: {IS_KEY}"),
+        (writes(DRAFT, 0o640), f"{DRAFT}: {NOT_LEFT}"),
+        (writes(LOCK, 0o640), f"{LOCK}: {NOT_LEFT}"),
+        (leads(DRAFT, "policy"), f"{DRAFT}: {NO_ROOM}"),
+        (leads(LOCK, "kept"), f"{LOCK}: {NO_ROOM}"),
+        (lambda folder: (folder / DRAFT).mkdir(), f"{DRAFT}: {NO_ROOM}"),
+        (lambda folder: os.mkfifo(folder / LOCK), f"{LOCK}: {NO_ROOM}"),
+    ):
+        isnt_begun(program, "kept", why, lay)
+    for path in (DRAFT, LOCK):
+        isnt_begun(program, "kept", f"{path}: {IS_LOG}", nothing, "--log", path)
+    twice = lambda folder: (writes(DRAFT, 0o600)(folder), links(DRAFT, "mine")(folder))
+    isnt_begun(program, "kept", f"{DRAFT}: {NOT_LEFT}", twice)
+
+
+def what_becomes_no_place_for_edits(program):
+    """While a server runs, too, nothing takes the place of FILE, and nothing removes it."""
+    eve = FIRST + "user eve"
+    policy = "group ops; permit show .*; user bob in ops"
+    with Keeping(program) as keeping:
+        was = keeping.policy.read_text()
+        os.link(keeping.policy, keeping.kept)
+        came = keeping.operator.ask("add user eve")
+        require(came == f"not kept: {IS_POLICY}\nok", f"an edit is answered by {came!r}")
+        require(keeping.kept.samefile(keeping.policy), "FILE's second name is taken")
+        require(keeping.policy.read_text() == was, "FILE is written")
+        keeping.kept.unlink()
+        keeping.asks("why bob show run", "permitted by group ops rule 1", eve)
+        # FILE leads to the kept file from now on.
+        keeping.policy.unlink()
+        os.symlink("kept", keeping.policy)
+        keeping.asks("reload", f"not kept: {IS_POLICY}\nok", eve)
+        keeping.policy.unlink()
+        replace(keeping.server, "policy", policy)
+        keeping.asks("why bob show run", "permitted by group ops rule 1", None)
+        said = f"tacd: kept: {IS_POLICY}; edits aren't kept\n" + IS_OVER
+        stops(keeping.server, keeping.operator, said * 2)
+
+
+def what_lies_beside(program):
+    """Edits leave a file whose name is that of the kept one and `.new`, be it a draft of an operator's
+    or FILE. What a killed server left goes with the next edit. One that got there otherwise stays."""
+    eve = FIRST + "user eve"
+    ann = eve + "; user ann"
+    with Keeping(program) as keeping:
+        folder = pathlib.Path(keeping.server.folder.name)
+        links("policy", "kept.new")(folder)
+        writes(DRAFT, 0o600)(folder)
+        keeping.asks("add user eve", "ok", eve)
+        require((folder / "kept.new").samefile(keeping.policy), "FILE is gone")
+        require(not keeping.draft.exists(), "the draft is still there")
+        (folder / "kept.new").unlink()
+        writes("kept.new", 0o600)(folder)
+        links("policy", DRAFT)(folder)
+        keeping.asks("add user ann", f"not kept: {IS_POLICY}\nok", eve)
+        require(keeping.draft.samefile(keeping.policy), "FILE's second name is taken")
+        keeping.draft.unlink()
+        writes(DRAFT, 0o640)(folder)
+        keeping.asks("drop group ops 9", "refused 7 BadIndex", eve)
+        require(keeping.draft.read_text() == "a draft\n", "a draft is taken that no server left")
+        keeping.draft.unlink()
+        keeping.asks("why bob show run", "permitted by group ops rule 1", ann)
+        require((folder / "kept.new").read_text() == "a draft\n", "an operator's draft is taken")
+        said = f"tacd: kept: {IS_POLICY}; edits aren't kept\n" + IS_OVER
+        stops(keeping.server, keeping.operator, said)
+    # A server begins where one was killed before its draft was whole.
+    with tempfile.TemporaryDirectory() as folder:
+        writes(".kept.tacd-draft", 0o600, "group o")(pathlib.Path(folder))
+        with attended(program, "--keep-edits", f"{folder}/kept") as server, Operator(server) as operator:
+            told(operator, ("why bob show run", "permitted by group ops rule 1"), ("add user eve", "ok"))
+            stops(server, operator)
+        require(sorted(os.listdir(folder)) == [".kept.tacd-lock", "kept"], os.listdir(folder))
+
+
+def one_server_to_a_file(program):
+    """A second one ends with 4 as long as the first is there, whatever became of the file; after that
+    it begins. Another file in the same folder is another server's."""
+    with tempfile.TemporaryDirectory() as folder:
+        kept = f"{folder}/kept"
+
+        def is_refused():
+            words = ("--console", "console", "--keep-edits", kept)
+            why = f"tacd: {folder}/.kept.tacd-lock: another server holds this lock\n"
+            with Server(program, *words) as second:
+                second.ends(complained=why, status=4, is_listening=False)
+
+        with attended(program, "--keep-edits", kept) as first, Operator(first) as operator:
+            is_refused()
+            for line in ("add group far", "add group net", "reload", "add group far"):
+                require(operator.ask(line) == "ok", f"{line} isn't made")
+                is_refused()
+            with attended(program, "--keep-edits", f"{folder}/other") as second:
+                with Operator(second) as other:
+                    stops(second, other)
+            is_refused()
+            first.process.kill()
+            first.process.wait()
+        with attended(program, "--keep-edits", kept) as second, Operator(second) as operator:
+            told(operator, ("add group far", "refused 3 Exists"))
+            said = (
+                f"tacd: {kept}: served in place of policy, since it has edits of the console; "
+                "'reload' takes that again\n"
+            )
+            stops(second, operator, said)

@@ -14,6 +14,7 @@ from cases import Case, Check, Outcome, Play
 from notation import spelled
 from served import (
     ASK,
+    BLANK,
     CLOSING,
     KEPT,
     LOGIN,
@@ -49,7 +50,7 @@ at 192.0.2.3
 tls core-1.example
 device keyed
 at 192.0.2.4
-key {KEY.decode()}
+key wide-kelp-forest-0092
 device inside
 at 127.0.0.5
 tls
@@ -59,6 +60,8 @@ IN_CLEAR, KEPT_IN_CLEAR = "01", "05"
 BAD_BODY = "c00202{flag}.00000001.0000000e.110000080000'bad body'"
 SIGNATURE = bytes.fromhex("0d0a0d0a000d0a515549540a")
 TLS, NAME = 0x20, 0x22
+# PP2_CLIENT_SSL, PP2_CLIENT_CERT_CONN and PP2_CLIENT_CERT_SESS, and all of them.
+BY_TLS, SHOWN, SHOWN_BEFORE, VERIFIED = 1, 2, 4, 7
 NO_HEADER = "tacd: proxy: bad proxy header, its connection is closed\n"
 
 
@@ -70,10 +73,12 @@ def cases(name):
         the_port_beside_it,
         a_proxy_alone,
         certificates,
+        nothing_verified,
         each_device_its_own_way,
         headers_in_pieces,
         no_headers,
         nobody_called,
+        no_caller,
         so_many_of_an_address,
         the_socket,
     ):
@@ -97,12 +102,15 @@ def vector(kind, value):
     return struct.pack(">BH", kind, len(value)) + value
 
 
-def header(address, name=None, command=0x21, verify=0, more=b""):
-    """A header of version 2, with the name of a certificate if one is said."""
+def header(address, name=None, command=0x21, client=VERIFIED, verify=0, more=b""):
+    """A header of version 2, with the name of a certificate if one is said, and with nothing of TLS
+    where the client has no flags."""
     family = socket.AF_INET6 if ":" in address else socket.AF_INET
-    places = socket.inet_pton(family, address) * 2 + struct.pack(">HH", 40000, 300)
-    inner = b"" if name is None else vector(NAME, name)
-    told = places + vector(TLS, struct.pack(">BI", 7, verify) + inner) + more
+    told = socket.inet_pton(family, address) * 2 + struct.pack(">HH", 40000, 300)
+    if client is not None:
+        inner = b"" if name is None else vector(NAME, name)
+        told += vector(TLS, struct.pack(">BI", client, verify) + inner)
+    told += more
     kind = 0x21 if family == socket.AF_INET6 else 0x11
     return SIGNATURE + struct.pack(">BBH", command, kind, len(told)) + told
 
@@ -215,7 +223,7 @@ def a_proxy_alone(program):
     with serving(program, has_port=False) as server:
         require(asks(server, line("192.0.2.2")), "a device isn't answered")
         told = typed(program, server, "status")
-        for name in ("no_key", "no_tls", "other_certificate", "bad_proxy_header"):
+        for name in ("no_key", "no_tls", "no_certificate", "other_certificate", "bad_proxy_header"):
             require(f'{{why="{name}"}} 0\n' in told, f"it tells {told}")
         ends(program, server)
 
@@ -230,7 +238,7 @@ def certificates(program):
             header("192.0.2.3", b"core-1.exampl"),
             header("192.0.2.3", b"CORE-1.example"),
             header("192.0.2.3"),
-            header("192.0.2.3", b"core-1.example", verify=1),
+            header("192.0.2.3", client=None),
             line("192.0.2.3"),
         ):
             with called(server, head) as device:
@@ -245,6 +253,46 @@ def certificates(program):
         ends(program, server, other.format("192.0.2.3"))
 
 
+def nothing_verified(program):
+    """A device of which the proxy says that it verified no certificate comes in by neither form of
+    `tls`: its certificate isn't right, it showed none, or it didn't come by TLS. Where the proxy
+    says nothing of that, or no name, `tls` lets it in."""
+    complaint = (
+        "tacd: 192.0.2.1: the proxy verified no certificate of the device,"
+        " its connection is closed\n"
+    )
+    with serving(program) as server:
+        for told in (
+            {"client": None},
+            {},
+            {"client": BY_TLS | SHOWN},
+            {"client": BY_TLS | SHOWN_BEFORE},
+        ):
+            require(asks(server, header("192.0.2.1", **told)), f"{told} isn't served")
+        heads = [
+            header(address, b"core-1.example", **told)
+            for address in ("192.0.2.1", "192.0.2.3")
+            for told in (
+                {"verify": 1},
+                {"verify": 0x12000000},
+                {"client": BY_TLS},
+                {"client": BY_TLS, "verify": 1},
+                {"client": SHOWN | SHOWN_BEFORE},
+                {"client": 0},
+            )
+        ]
+        for head in heads:
+            with called(server, head) as device:
+                require(is_closed(device, SOON), f"{head} is served")
+        told = [event for event in events(server) if "count" in event]
+        require(refused(server)[0] == ("both", "no certificate"), f"it has {told}")
+        require(told[0]["tls"] is None, f"it has {told}")
+        told = typed(program, server, "status")
+        require(f'{{why="no_certificate"}} {len(heads)}\n' in told, f"it tells {told}")
+        require('{why="other_certificate"} 0\n' in told, f"it tells {told}")
+        ends(program, server, complaint)
+
+
 def each_device_its_own_way(program):
     """One that has a key alone isn't served by the proxy, nor one with a certificate alone at the
     port; nor is one that isn't listed."""
@@ -253,6 +301,7 @@ def each_device_its_own_way(program):
     unknown = "tacd: {}: unknown device, its connection is closed\n"
     for source, head, why, name, complaint in (
         (None, line("192.0.2.4"), "no tls", "keyed", no_tls.format("192.0.2.4")),
+        (None, header("192.0.2.4", client=0), "no tls", "keyed", no_tls.format("192.0.2.4")),
         ("127.0.0.5", None, "no key", "inside", no_key.format("127.0.0.5")),
         (None, line("192.0.2.5"), "unknown device", None, unknown.format("192.0.2.5")),
     ):
@@ -321,7 +370,7 @@ def nobody_called(program):
     """A proxy that looks whether the server is up is neither counted nor told of."""
     with serving(program) as server:
         local = SIGNATURE + bytes.fromhex("20000000")
-        for head in (local, b"PROXY UNKNOWN\r\n", b"PROXY UNKNOWN a b c d\r\n"):
+        for head in (local, header("192.0.2.1", command=0x20), header("192.0.2.5", command=0x20)):
             with called(server, head) as device:
                 require(is_closed(device, SOON), f"{head} is served")
         with called(server) as device:
@@ -330,7 +379,26 @@ def nobody_called(program):
         require(events(server) == [], f"the log has {events(server)}")
         told = typed(program, server, "status")
         require("tacd_connections_accepted_total 0\n" in told, f"it tells {told}")
+        require('{why="bad_proxy_header"} 0\n' in told, f"it tells {told}")
         ends(program, server)
+
+
+def no_caller(program):
+    """Of what a proxy hands over it has to tell who called: where that is nobody's address, the
+    connection is closed, counted and told of as one without a header."""
+    kinds = (0x00, 0x01, 0x10, 0x12, 0x22, 0x31, 0x32)
+    heads = [b"PROXY UNKNOWN\r\n", b"PROXY UNKNOWN a b c d\r\n"]
+    heads += [SIGNATURE + bytes([0x21, kind, 0, 0]) for kind in kinds]
+    with serving(program) as server:
+        for head in heads:
+            with called(server, head) as device:
+                require(is_closed(device, SOON), f"{head} is served")
+        told = [(event["device"], event["why"]) for event in events(server)]
+        require(set(told) == {("proxy", "bad proxy header")}, f"the log has {told}")
+        told = typed(program, server, "status")
+        require(f'{{why="bad_proxy_header"}} {len(heads)}\n' in told, f"it tells {told}")
+        require("tacd_connections_accepted_total 0\n" in told, f"it tells {told}")
+        ends(program, server, NO_HEADER)
 
 
 def so_many_of_an_address(program):
@@ -360,7 +428,7 @@ def the_socket(program):
         require(stat.S_ISSOCK(mode) and stat.S_IMODE(mode) == 0o660, f"its mode is {mode:o}")
         there = "tacd: {}: a server is there already\n"
         with Server(program, key=("--devices", "devices"), proxy=path) as second:
-            second.ends(complained=there.format(path), status=4, is_listening=False)
+            second.ends(complained=BLANK + there.format(path), status=4, is_listening=False)
         require(asks(server, line("192.0.2.1")), "the first isn't there any more")
         ends(program, server)
         require(path.is_socket(), "its file is gone")
@@ -378,4 +446,4 @@ def the_socket(program):
         path.write_text("")
         no_socket = f"tacd: {path}: it is no socket\n"
         with Server(program, key=("--devices", "devices"), proxy=path) as third:
-            third.ends(complained=no_socket, status=4, is_listening=False)
+            third.ends(complained=BLANK + no_socket, status=4, is_listening=False)

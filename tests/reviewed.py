@@ -188,22 +188,36 @@ def edits_are_told_as_the_console_tells_them(program):
         raise Wrong(f"{taken} edits are taken, and {changing} change something")
 
 
+def users_of(policy):
+    return {line.split()[1] for line in policy.splitlines() if line.startswith("user ")}
+
+
+def told_of_users(old, new):
+    """What a reload says last, where fewer than half of the users are there still."""
+    had, gone = users_of(old), users_of(old) - users_of(new)
+    return [f"{len(gone)} of {len(had)} users are gone"] if 2 * len(gone) > len(had) else []
+
+
 def reloads_are_told_as_the_console_tells_them(program):
-    """A server loads one policy after another, and prints each. Nearly all change something."""
+    """A server loads one policy after another, and prints each. Nearly all change something. What is
+    said of users who are gone is on standard error too."""
     policies = [
         replayed(program, POLICY, list(edits_by_chance(seed, 20)))[-1][1] for seed in range(1, 60)
     ]
     changing = 0
+    complained = ""
     with Server(program, policy=policies[0]) as server:
         starts(server)
         for old, new in zip(policies, policies[1:]):
             found = reviewed(program, ["diff"], old, new)
             told = [] if found == "same\n" else found.splitlines()
+            gone = told_of_users(old, new)
             pathlib.Path(server.folder.name, "policy").write_text(new, "utf-8")
-            types(server, "reload", "ok", *told)
+            types(server, "reload", "ok", *told, *gone)
             types(server, "policy", *new.splitlines())
             changing += len(told) > 0
-        server.ends("quit\n", is_listening=False)
+            complained += "".join(f"tacd: policy: {line}\n" for line in gone)
+        server.ends("quit\n", complained=complained, is_listening=False)
     if changing <= 40:
         raise Wrong(f"{changing} policies change something")
 

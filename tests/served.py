@@ -25,7 +25,7 @@ from cases import Case, Check, Outcome, Play, Wrong
 from generated import ATTRIBUTES, asked, given, granted
 from notation import spelled
 
-KEY = b"k "  # It ends in a blank.
+KEY = b"wide kelp"
 POLICY = "group ops\npermit show .*\nuser bob in ops\n"
 # A prefix of each device is within one of the other, before it or after it. Nobody is at 127.0.0.3.
 DEVICES = b"""# two devices
@@ -67,6 +67,8 @@ def cases(name):
         packets_that_are_not_whole,
         at_each_address,
         at_an_address,
+        at_an_address_of_ipv6,
+        where_ipv6_is_alone,
         segments_that_begin_by_themselves,
         the_latest_records,
         what_is_forgotten_counts_nowhere,
@@ -89,6 +91,7 @@ def cases(name):
         statuses_of_the_console_client,
         too_few_files_may_be_open,
         a_port_that_is_taken,
+        a_port_of_all_addresses,
     ):
         expected = Outcome(b"", b"", 0)
         yield Case(f"{name}: {play.__name__}", [Check(Play(play), expected, "its devices called")])
@@ -115,17 +118,19 @@ class Server:
 
     def __init__(self, program, *options, key=("--key-file", "key"), host="127.0.0.1", port=None,
                  has_port=True, proxy=None, output=subprocess.PIPE, policy=POLICY,
-                 devices=DEVICES.decode(), before=None):
+                 devices=DEVICES.decode(), before=None, file="policy"):
         self.folder = tempfile.TemporaryDirectory(prefix="tacd-served-")
         self.address = (host, port or free_port())
         places = {"--port": self.address[1] if has_port else None, "--proxy": proxy}
         self.places = {option: str(place) for option, place in places.items() if place}
-        files = {"policy": policy.encode(), "key": KEY + b"\n", "devices": devices.encode()}
+        at = dict(itertools.pairwise(options)).get("--address")
+        self.at = f" at {at}" if at not in (None, "0.0.0.0", "::") else ""
+        files = {file: policy.encode(), "key": KEY + b"\n", "devices": devices.encode()}
         for name, text in files.items():
             path = pathlib.Path(self.folder.name, name)
             path.write_bytes(text)
             path.chmod(0o600)
-        words = ["serve", *itertools.chain(*self.places.items()), *key, *options, "policy"]
+        words = ["serve", *itertools.chain(*self.places.items()), *key, *options, file]
         self.process = subprocess.Popen(
             ["tacd", *words],
             executable=program,
@@ -150,8 +155,9 @@ class Server:
             printed, said = self.process.communicate(typed.encode(), LONGEST_WAIT)
         except subprocess.TimeoutExpired:
             raise Wrong(f"it didn't end after {typed!r}") from None
-        places = self.places.values() if is_listening else ()
-        expected = "".join(f"listening {place}\n" for place in places) + answers
+        ends = {"--port": f"{self.at}\n", "--proxy": "\n"}
+        places = self.places.items() if is_listening else ()
+        expected = "".join(f"listening {place}{ends[option]}" for option, place in places) + answers
         came = ((printed or b"").decode(), said.decode(), self.process.returncode)
         require(came == (expected, complained, status), f"after {typed!r} it ended by {came}")
 
@@ -377,13 +383,44 @@ def at_each_address(program):
 
 
 def at_an_address(program):
-    """The port may be another's at each other address."""
+    """The first line names it. The port may be another's at each other address."""
     with socket.create_server(("127.0.0.1", 0)) as other:
         port = other.getsockname()[1]
         options = ("--address", "127.0.0.2", "--workers", "1")
         with Server(program, *options, host="127.0.0.2", port=port) as server:
             asks_ten_times(server)
             server.quits()
+
+
+def at_an_address_of_ipv6(program):
+    with Server(program, "--address", "::1", "--workers", "1", host="::1") as server:
+        asks_ten_times(server)
+        server.quits()
+
+
+# Of Linux (unshare(2)).
+NEW_USERS, NEW_NETWORK = 0x10000000, 0x40000000
+
+
+def begin_with_ipv6_alone():
+    """In a network of its own, where `::` is every IPv6 address alone."""
+    flags = NEW_NETWORK | (NEW_USERS if os.geteuid() else 0)
+    libc = ctypes.CDLL(None, use_errno=True)
+    if libc.unshare(flags) != 0:
+        raise OSError(ctypes.get_errno(), "unshare")
+    pathlib.Path("/proc/sys/net/ipv6/bindv6only").write_text("1")
+
+
+def where_ipv6_is_alone(program):
+    """Standard error says so of `::`, and of no other address."""
+    alone = (
+        "tacd: '::' takes calls by IPv6 alone, since net.ipv6.bindv6only is 1 on this machine: devices "
+        "that call by IPv4 aren't served\n"
+    )
+    for address, complained in (("::", alone), ("0.0.0.0", "")):
+        options = ("--address", address, "--workers", "1")
+        with Server(program, *options, before=begin_with_ipv6_alone) as server:
+            server.ends("quit\n", complained=complained)
 
 
 def segments_that_begin_by_themselves(program):
@@ -511,9 +548,16 @@ def each_device_by_its_own_key(program):
                     require(came == refusal, f"{options}: {source} is sent {came}")
             with connect(server, STRANGER) as stranger:
                 require(is_closed(stranger, SOON), f"{options}: a stranger is served")
-            server.ends("quit", complained=UNKNOWN)
+            misfits = (("1", "one"), ("2", "two"), ("8", "one"), ("9", "two"))
+            told = "".join(
+                f"tacd: 127.0.0.{place}: device {name}, its packets don't fit the key\n"
+                for place, name in misfits
+            )
+            server.ends("quit", complained=f"{BLANK}{told}{UNKNOWN}")
 
 
+# What a start says of the key of the second device.
+BLANK = "tacd: devices: line 10: a key with a blank at an end, which is part of it\n"
 UNKNOWN = f"tacd: {STRANGER}: unknown device, its connection is closed\n"
 
 
@@ -542,7 +586,7 @@ def strangers_are_closed(program):
             for device, key in devices:
                 require(is_answered(device, ASK, PERMITTED, key=key, flag=KEPT), "it is given up")
         told += "".join(typed(program, server, line) for line in ("help", "policy", "quit"))
-        server.ends(complained=UNKNOWN)
+        server.ends(complained=BLANK + UNKNOWN)
         told += pathlib.Path(server.folder.name, "log").read_text("utf-8")
         for key in (KEY_OF_ONE, KEY_OF_TWO):
             require(key.decode().strip() not in told, f"a key is told: {told}")
@@ -682,26 +726,40 @@ def a_console_at_standard_input(program):
         server.ends(lines, "", unwritten, status=4, is_listening=False)
 
 
-# What a console may answer to `reload devices`, and the status of `tacd console` then.
-RELOADED = {
+# What a console may answer, and the status of `tacd console` then.
+ANSWERED = {
+    "refused by user carla": 0,
+    "refused by group ops\ngroup ops gives refused=1": 0,
+    "not kept: No space left on device (os error 28)\nrefused by user carla": 5,
+    "ok\nrefused 1 BadEdit": 0,
+    "refused 1 BadEdit": 1,
+    "refused 12 Memory": 1,
+    "refused at edit 64: 7 BadIndex": 1,
+    "fault line 3 5 BadPattern 3 Unclosed at 0": 1,
+    "fault NoUser": 1,
+    "fault TooManyStates group ops": 1,
+    "hall 1 LogFull": 1,
+    "unread policy: No such file or directory (os error 2)": 1,
+    "busy ben": 1,
+    "busy another": 1,
     "devices ok: 2 devices, 3 prefixes": 0,
     "no devices": 0,
     "devices fault line 7 4 BadPrefix": 1,
     "devices unread devices: No such file or directory (os error 2)": 1,
-    "refused 12 Memory": 1,
     "not kept: No space left on device (os error 28)\nno devices": 5,
     "not kept: No space left on device (os error 28)\ndevices fault line 7 4 BadPrefix": 1,
 }
 
 
 def statuses_of_the_console_client(program):
-    """Of each answer to `reload devices`, which a console gives that is a test's own."""
+    """Of each answer that a console gives which is a test's own. `refused by` is no refusal: it says who
+    refuses a service."""
     with tempfile.TemporaryDirectory(prefix="tacd-served-") as folder:
         with socket.socket(socket.AF_UNIX) as console:
             console.bind(f"{folder}/console")
             console.listen()
             console.settimeout(LONGEST_WAIT)
-            for answer, status in RELOADED.items():
+            for answer, status in ANSWERED.items():
                 client = subprocess.Popen(
                     ["tacd", "console", "console", "reload", "devices"],
                     executable=program,
@@ -752,6 +810,26 @@ def a_port_that_is_taken(program):
         more = "tacd: 'tacd lint policy' says more\n"
         with Server(program, port=port, policy="x") as server:
             server.ends("", "fault line 1 1 BadLine\n", more, status=1, is_listening=False)
+
+
+def a_port_of_all_addresses(program):
+    """A server at one of them is refused, whichever came first."""
+    for address, others in (
+        ("0.0.0.0", ("127.0.0.1", "127.0.0.2", "0.0.0.0", "::")),
+        ("::", ("127.0.0.1", "::1", "0.0.0.0", "::")),
+        ("127.0.0.1", ("0.0.0.0", "::")),
+        ("::1", ("::",)),
+    ):
+        host = "::1" if address == "::1" else "127.0.0.1"
+        with Server(program, "--address", address, "--workers", "1", host=host) as server:
+            connect(server).close()
+            for other in others:
+                port = server.address[1]
+                place = f"[{other}]:{port}" if ":" in other else f"{other}:{port}"
+                taken = f"tacd: {place}: Address already in use (os error 98)\n"
+                with Server(program, "--address", other, port=port) as second:
+                    second.ends(complained=taken, status=4, is_listening=False)
+            server.quits()
 
 
 # A device asks, begins a login and gives it up, asks again, and gives a login up that isn't open.

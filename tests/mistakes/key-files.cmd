@@ -31,6 +31,48 @@ file key
 the second line
 
 $ tacd serve --port 1 --key-file key nobody
+! tacd: key: a key with a blank at an end, which is part of it
+! tacd: nobody: No such file or directory (os error 2)
+status 4
+
+# What is doubtful is said of the first line, and never by the key.
+file key
+wintry-tundra-ridge-41
+"the second line"
+
+$ tacd serve --port 1 --key-file key nobody
+! tacd: nobody: No such file or directory (os error 2)
+status 4
+
+file key
+'wintry-tundra-ridge-41'
+
+$ tacd serve --port 1 --key-file key nobody
+! tacd: key: a key in quotes, which are part of it
+! tacd: nobody: No such file or directory (os error 2)
+status 4
+
+file key
+wintry-tundra-ridge-41 # of the campus
+
+$ tacd serve --port 1 --key-file key nobody
+! tacd: key: a key with '#' after a blank: no comment, but part of it
+! tacd: nobody: No such file or directory (os error 2)
+status 4
+
+file key
+7 02050D480809
+
+$ tacd serve --port 1 --key-file key nobody
+! tacd: key: a key that looks like Cisco's type 7: it is taken as it stands
+! tacd: nobody: No such file or directory (os error 2)
+status 4
+
+file key
+kkkkkkkkkkkkkkkk␃
+
+$ tacd serve --port 1 --key-file key nobody
+! tacd: key: a key of one character, alone or repeated
 ! tacd: nobody: No such file or directory (os error 2)
 status 4
 
@@ -38,7 +80,7 @@ file other-key
 key = tundra
 
 $ tacd serve --port 1 --key-file other-key nobody
-! tacd: other-key: its first line begins with 'key'; the whole line is taken for the key
+! tacd: other-key: a key that begins with 'key =' or '= ', which is part of it
 ! tacd: nobody: No such file or directory (os error 2)
 status 4
 
@@ -47,7 +89,7 @@ key=tundra␃
 
 $ tacd serve --port 1 --key-file open-key nobody
 ! tacd: open-key: it has secrets, and any user of this machine can read it
-! tacd: open-key: its first line begins with 'key'; the whole line is taken for the key
+! tacd: open-key: a key that begins with 'key =' or '= ', which is part of it
 ! tacd: nobody: No such file or directory (os error 2)
 status 4
 

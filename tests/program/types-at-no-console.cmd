@@ -2,11 +2,11 @@ file policy
 group ops
 
 $ tacd console nowhere policy
-! tacd: nowhere: No such file or directory (os error 2)
+! tacd: nowhere: no server listens at this socket
 status 4
 
 $ tacd console policy policy
-! tacd: policy: Connection refused (os error 111)
+! tacd: policy: no server listens at this socket
 status 4
 
 $ tacd console

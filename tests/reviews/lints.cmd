@@ -110,6 +110,34 @@ line 10 column 14: it ends with a space: is that meant?
 line 13 column 8: tac_plus calls the shell so: is 'shell' meant?
 status 5
 
+# Of the names of RFC 8907, section 8.2 those of a request alone are asked about.
+file policy
+policy 3
+user bob
+login x
+service shell service=a
+service shell protocol=a
+service shell cmd=a
+service shell cmd-arg=a
+service shell acl=a
+service shell inacl=a
+service shell outacl=a
+service shell addr=a
+service shell addr-pool=a
+service shell timeout=a
+service shell idletime=a
+service shell autocmd=a
+service shell noescape=a
+service shell nohangup=a
+permit ()
+
+$ tacd lint policy
+line 4 column 15: devices that don't know it refuse the shell: is '*' meant in place of '='?
+line 5 column 15: devices that don't know it refuse the shell: is '*' meant in place of '='?
+line 6 column 15: devices that don't know it refuse the shell: is '*' meant in place of '='?
+line 7 column 15: devices that don't know it refuse the shell: is '*' meant in place of '='?
+status 5
+
 file policy
 policy 2
 group netops

@@ -355,7 +355,7 @@ pub(crate) fn word_of<'a>(matches: &ArgMatches<'a>, id: &str) -> &'a str {
 }
 
 /// The version of the program.
-pub(crate) const VERSION: &str = "0.18.1";
+pub(crate) const VERSION: &str = "0.19.0";
 
 /// What the program's command line may be.
 pub(crate) fn command<'a>(alloc: Global) -> Result<Command<'a>, AllocError> {

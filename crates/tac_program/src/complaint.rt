@@ -1,5 +1,6 @@
 //! What is said on standard error.
 
+use crate::status::Status;
 use tac_devices::Devices;
 use tac_io::AnswerFault;
 
@@ -38,4 +39,10 @@ pub(crate) fn tell_batches<R: Eprint>(rt: &R, batches: usize) {
             "tacd: {batches} batches; between two of them the policy is neither OLD nor NEW"
         );
     }
+}
+
+/// Says that memory ran out, and gives the status to end with.
+pub(crate) fn out_of_memory<R: Eprint>(rt: &R) -> Status {
+    let _ = eprintln!(rt; "tacd: memory ran out");
+    Status::OutOfMemory
 }

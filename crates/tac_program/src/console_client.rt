@@ -19,22 +19,32 @@ const TRIES: u32 = 20;
 
 const PAUSE: u64 = 250;
 
-/// What an answer begins with whose line wasn't obeyed.
+/// What an answer begins with whose line wasn't obeyed. There is also `refused` with a number, since
+/// `refused by` says who refuses a service, which is what was asked.
 const REFUSALS: [&[u8]; 7] = [
-    b"refused",
-    b"fault",
-    b"hall",
-    b"unread",
-    b"devices fault",
-    b"devices unread",
-    b"busy",
+    b"refused at edit ",
+    b"fault ",
+    b"hall ",
+    b"unread ",
+    b"devices fault ",
+    b"devices unread ",
+    b"busy ",
 ];
+
+/// What comes before the number of a refusal.
+const NUMBERED: &[u8] = b"refused ";
+
+/// What is said in place of a place, where all are taken.
+const TAKEN: &[u8] = b"busy\n";
 
 /// What comes before the answer to an edit that was made and isn't kept.
 const UNKEPT: &[u8] = b"not kept: ";
 
 /// What is said where a session ends before its answer.
 const ENDED: &str = "the server ended the session";
+
+/// What is said where a socket can't be called.
+const UNSERVED: &str = "no server listens at this socket";
 
 /// What is said where there is a FIFO, as an upgrade leaves it until the server is restarted.
 const OLD: &str = "it is a FIFO, the console of a server before version 0.9.0: restart that first";
@@ -73,8 +83,16 @@ impl Answered {
     }
 }
 
+fn is_numbered(line: &[u8]) -> bool {
+    match line.strip_prefix(NUMBERED) {
+        Some([digit, ..]) => digit.is_ascii_digit(),
+        _ => false,
+    }
+}
+
+// Whether the first line of an answer says that the line wasn't obeyed.
 fn is_refusal(line: &[u8]) -> bool {
-    REFUSALS.iter().any(|word| line.starts_with(word))
+    is_numbered(line) || line == TAKEN || REFUSALS.iter().any(|words| line.starts_with(words))
 }
 
 impl Session {
@@ -280,6 +298,20 @@ where
     }
 }
 
+// Says why nothing more is answered.
+fn tell_why<R: Eprint, H: ConsoleHost>(rt: &R, host: &H, path: &str, error: &io::Error) {
+    let _ = if host.is_fifo(path) {
+        eprintln!(rt; "tacd: {path}: {OLD}")
+    } else {
+        match error.kind() {
+            ErrorKind::NotFound | ErrorKind::ConnectionRefused => {
+                eprintln!(rt; "tacd: {path}: {UNSERVED}")
+            }
+            _ => eprintln!(rt; "tacd: {path}: {error}"),
+        }
+    };
+}
+
 /// Types at the console of a server, and prints what is answered.
 pub(crate) fn type_at_console<R, H>(rt: &R, host: &H, matches: &ArgMatches<'_>) -> Status
 where
@@ -297,11 +329,7 @@ where
         Ok(Answered::Refused) => Status::Refused,
         Ok(Answered::Unkept) => Status::Differs,
         Err(error) => {
-            if host.is_fifo(path) {
-                let _ = eprintln!(rt; "tacd: {path}: {OLD}");
-            } else {
-                let _ = eprintln!(rt; "tacd: {path}: {error}");
-            }
+            tell_why(rt, host, path, &error);
             Status::of_unopened(error.kind())
         }
     }

@@ -18,6 +18,10 @@ use tac_devices::{Asked, Devices, DevicesFault, ListingEnd, list_devices, read_d
 use tac_io::{AnswerFault, InputFault, read_whole, write_answer};
 use tac_net::Directory;
 
+/// How many remarks on a devices' file a start says. Where one key is for all there may be as many
+/// as devices.
+const MOST_REMARKS: usize = 64;
+
 // Reads a text, and works out what is told of it and of these addresses.
 fn answer<R: Read>(
     alloc: Global,
@@ -146,15 +150,39 @@ fn open_devices<R: Read, W: Write>(
     write_answer(writer, devices_read(alloc, reader))
 }
 
-// The devices of the file at a path. The error here and below is the status to end with, and the
-// reason was said.
+// Says what is remarked on devices, which count all the same. The error here and below is the
+// status to end with, and the reason was said.
+fn tell_remarks<R: Eprint + AllocGlobal>(
+    rt: &R,
+    path: &str,
+    devices: &Devices,
+) -> Result<(), Status> {
+    let Ok(remarks) = devices.remarks(rt.alloc()) else {
+        complain_of_devices(rt, path, AnswerFault::Memory);
+        return Err(Status::OutOfMemory);
+    };
+    let (told, untold) = remarks.as_slice().split_at(remarks.len().min(MOST_REMARKS));
+    'remarks: for remark in told {
+        let _ = eprintln!(rt; "tacd: {path}: {remark}");
+    }
+    if !untold.is_empty() {
+        let more = untold.len();
+        let _ = eprintln!(rt; "tacd: {path}: {more} more remarks; 'tacd devices {path}' tells all");
+    }
+    Ok(())
+}
+
+// The devices of the file at a path, of which standard error has the remarks.
 fn devices_of_file<R>(rt: &R, path: &str) -> Result<Devices, Status>
 where
     R: Files + Print + Eprint + AllocGlobal,
 {
     let mut file = open_secret(rt, path)?;
     match open_devices(rt.alloc(), &mut file, &mut io::writer(rt)) {
-        Ok(Some(devices)) => Ok(devices),
+        Ok(Some(devices)) => {
+            tell_remarks(rt, path, &devices)?;
+            Ok(devices)
+        }
         Ok(None) => Err(Status::Refused),
         Err(fault) => {
             complain_of_devices(rt, path, fault);

@@ -95,13 +95,15 @@ nothing, or for a user who types a password. A connection is closed where the de
 had no reply for so many seconds as --idle or --login-idle says, at most 10 before the first reply.
 One beyond --connections-at-once or --per-address is closed as it comes, and none is given up for it.
 
-Standard output has 'listening PORT' first, 'listening PATH' where a proxy calls, and then the
-answers of a console on standard input.
-Standard error says so where too few files may be open for so many connections, as by 'ulimit -n'.
+Standard output has 'listening PORT' first, or 'listening PORT at ADDRESS' with --address, then
+'listening PATH' where a proxy calls, and then the answers of a console on standard input.
+Standard error says so where too few files may be open for so many connections, as by 'ulimit -n',
+and where the policy has no user, so that nobody can log in.
 
-Signals aren't seen: SIGTERM ends the server, and SIGHUP too. To run it in the background or in a
-container, give --console PATH, where operators type by 'tacd console PATH', or --no-console. The
-package's service has --console /run/tacd/console; further options stand in /etc/default/tacd.
+SIGTERM ends the server at once, and so does SIGHUP, unless ./tacd or the package's service started
+it: it goes on then. To run it in the background or in a container, give --console PATH, where
+operators type by 'tacd console PATH', or --no-console. The package's service has
+--console /run/tacd/console; further options stand in /etc/default/tacd.
 
 Lines of the console, where a SUBJECT is 'user NAME' or 'group NAME':
   policy               the policy as it is now
@@ -133,7 +135,9 @@ An edit, a 'commit' and a 'reload' are answered by 'ok', and then by what they c
 shortest line that is now permitted, the shortest that is now denied, and what is given otherwise
 for services, as 'tacd diff --help' has it. Or they are answered by 'refused' and why, and have
 changed nothing. A file that is refused is told as by 'tacd check', and one that can't be read by
-'unread' and why.
+'unread' and why. A file without a user is 'fault NoUser' where the policy has one. Where fewer than
+half of the users are there after a 'reload', its last line says how many are gone, and standard
+error does too.
 A 'reload devices' is answered by 'devices ok' and how many; a file that is refused as by 'tacd
 devices', and one that can't be read by 'devices unread' and why. Then those before are served on.
 Without --devices it is 'no devices'.
@@ -142,7 +146,8 @@ A line that the server doesn't take is answered by 'hall' and why.
 With --keep-edits PATH, an edit is on the disk before it is answered: PATH has the policy with all
 edits, as 'policy' prints it. Where the disk doesn't take it, 'not kept: ' and why comes before the
 answer, the edit counts all the same, and it is tried again before each later answer. Where PATH is
-there at a start, it is served in place of FILE. 'reload' takes FILE again, and removes PATH.
+there at a start, it is served in place of FILE. 'reload' takes FILE again, and removes PATH. Beside
+PATH the server has two files, '.NAME.tacd-draft' and '.NAME.tacd-lock', where NAME is that of PATH.
 
 Lines of a policy:
   policy 2, policy 3   the first line, if it is there: patterns may count, as '{1,3}'; hashes and
@@ -172,10 +177,10 @@ Exit status:
      the file of --devices is, as by 'tacd devices'
   2  the command line or the key is wrong
   3  memory ran out, a thread could not be made, or too few files may be open
-  4  a file could not be read, that of --log could not be opened, what is at the path of
-     --keep-edits is no regular file or is FILE, the port or the socket of --console could not be
-     had, the console could not be read, or the output could not be written, or 'close refused' was
-     printed: a worker or the console had no place in the history"
+  4  a file could not be read, that of --log could not be opened, edits can't be kept in that of
+     --keep-edits, or another server keeps its own there, the port or the socket of --console could
+     not be had, the console could not be read, or the output could not be written, or 'close
+     refused' was printed: a worker or the console had no place in the history"
     ),
 };
 
@@ -269,11 +274,11 @@ Examples:
 
 Exit status:
   0  each line was answered, and none was refused
-  1  an answer began with 'refused', 'fault', 'hall', 'unread', 'devices fault', 'devices unread' or
-     'busy'
+  1  a line was refused: its answer began with 'refused' and a number or with 'refused at edit', or
+     with 'fault', 'hall', 'unread', 'devices fault', 'devices unread' or 'busy'
   2  the command line is wrong
   3  memory ran out
-  4  no server is at PATH, all of its places are taken, it ended the session, or reading or writing
+  4  no server listens at PATH, all of its places are taken, it ended the session, or reading or writing
      failed
   5  an answer began with 'not kept', and none as at 1: an edit was made, and a restart would lose it",
 };
@@ -596,8 +601,8 @@ pub(crate) const CASES_HELP: &str = "The table's text, at most 268435456 bytes";
 pub(crate) const DEVICES_PAGE: Page = Page {
     about: "Reads which devices may call, and tells which of them an address is",
     long_about: "Reads a file that says which devices may call, by which addresses and under which keys, and prints
-how much it has, and what is remarked on their keys. Where addresses are given, it prints instead
-which device each of them is.
+how much it has, and what is remarked on it. Where addresses are given, it prints instead which
+device each of them is.
 
 Of the prefixes that an address begins with the longest decides, wherever it stands. No key is ever
 printed. 'tacd serve --devices' serves the devices of such a file.",
@@ -610,21 +615,36 @@ printed. 'tacd serve --devices' serves the devices of such a file.",
   device NAME          begins a device, or several that share what follows
   at ADDRESS           the device above it has this address; at least one
   at ADDRESS/N         it has all addresses that begin with the first N bits of this one
-  key TEXT             the key that it shares with the server, 1 to 128 characters; exactly one
+  key TEXT             the key that it shares with the server, 1 to 128 characters
   old-key TEXT         a key that it had before, and that the server still takes
+  tls                  it may come inside TLS, with any certificate that a proxy verified
+  tls NAME             it may come inside TLS, with a certificate of this common name
   connections N        how many connections each of its addresses may have at once, 1 to 10000
 
-Empty lines, lines that begin with '#' and leading spaces are passed over. A NAME is 1 to 32 of the
+A device has 'key', 'tls' or both, and each of its lines but 'at' once at most. Empty lines, lines
+that begin with '#' and leading spaces are passed over. The NAME of a device is 1 to 32 of the
 characters A-Z a-z 0-9 _ - . @. An ADDRESS is an IPv4 or IPv6 address without a scope; one that is
 IPv4 written as IPv6, as ::ffff:192.0.2.1, is looked up as IPv4. There may be 4096 devices, and
 16384 lines 'at'.
 
-What is printed without any ADDRESS, the last two for each 'key' that they are so of:
+What is printed without any ADDRESS, the others than the first for each line that they are so of.
+'tacd serve' says them on standard error as it starts. All these lines count as they stand:
   devices ok: D devices, P prefixes
   line L: the key of line M
                        two devices have one key
   line L: a key of N characters
                        it has fewer than 16
+  line L: a key with a blank at an end, which is part of it
+  line L: a key in quotes, which are part of it
+  line L: a key with '#' after a blank: no comment, but part of it
+  line L: a key that begins with 'key =' or '= ', which is part of it
+  line L: a key that looks like Cisco's type 7: it is taken as it stands
+  line L: a key of one character, alone or repeated
+                       the first of these that is so of a key, or of an old one
+  line L: an old key beside the 'tls' of line M
+                       the device may come inside TLS, and its old key lets it in without
+  line L: the common name of line M
+                       two devices have one name behind 'tls'
 
 What is printed of each ADDRESS, in their order:
   ADDRESS NAME PREFIX line L

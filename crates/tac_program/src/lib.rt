@@ -2,6 +2,7 @@
 //! ends with.
 #![tactic(auto)]
 
+mod address;
 mod command_line;
 mod complaint;
 mod condition;
@@ -19,6 +20,7 @@ mod program;
 mod replaying;
 mod reviewing;
 mod server;
+mod serving_host;
 mod source;
 mod status;
 

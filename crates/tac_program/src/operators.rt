@@ -84,5 +84,5 @@ where
     let (end, parting) = attend(host, &socket, &exchange, &condition, patience, &mut console);
     let outcome = end.unwrap_or(Err(ServeFault::Threads));
     parting.tell(outcome.is_ok());
-    ended(rt, outcome)
+    ended(host, outcome)
 }

@@ -6,22 +6,25 @@
 ghost use Rattle.std.specs.Prelude.{◌≡◌};
 ghost use Rattle.tac_program.specs.Opening as opening;
 
+use crate::address::{address_of, address_text, socket_address};
 use crate::command_line::{
-    ADDRESS, CONNECTIONS, CONNECTIONS_AT_ONCE, CONSOLE, DEVICES_FILE, FAIL_DELAY, FILE, IDLE,
-    KEEP_EDITS, KEEP_RECORDS, KEY, KEY_FILE, LOG, LOGIN_IDLE, MAX_CALLS, NO_CONSOLE, PACKET_MEMORY,
+    CONNECTIONS, CONNECTIONS_AT_ONCE, CONSOLE, DEVICES_FILE, FAIL_DELAY, FILE, IDLE, KEEP_EDITS,
+    KEEP_RECORDS, KEY, KEY_FILE, LOG, LOGIN_IDLE, MAX_CALLS, NO_CONSOLE, PACKET_MEMORY,
     PER_ADDRESS, PORT, PROXY, ROTATE_AT, SYNC, WORKERS, word_of,
 };
+use crate::complaint::out_of_memory;
 use crate::devices::directory_of_file;
 use crate::opening::open_secret;
 use crate::status::Status;
 use basics::{Bytes, split_once};
 use clap::ArgMatches;
-use std::net::{IpAddr, SocketAddr};
+use std::net::SocketAddr;
 use std::rt::Files;
 use tac_desks::MAX_RECORDS;
+use tac_devices::KeyDoubt;
 use tac_forum::Limits;
 use tac_io::{InputFault, read_whole};
-use tac_keep::Tray;
+use tac_keep::{Tray, Use};
 use tac_net::{Callers, ClearDoor, Idle, Settings};
 use tac_status::Counts;
 use tac_tally::RecordLimit;
@@ -51,6 +54,8 @@ pub(crate) struct Options<'a> {
     pub(crate) proxy: Option<&'a str>,
     /// The policy's file.
     pub(crate) path: &'a str,
+    /// The key's file, if there is one.
+    pub(crate) key_file: Option<&'a str>,
     /// The devices' file, if there is one.
     pub(crate) devices: Option<&'a str>,
     /// How many records are kept, and what is done with one more.
@@ -101,13 +106,11 @@ fn first_line(text: &[u8]) -> &[u8] {
     }
 }
 
-// Says so where a line begins as one of another server's configuration does. It is the key all the
+// Says so where it is doubtful that this line is the key that was meant. It is the key all the
 // same.
 fn doubt<R: Eprint>(rt: &R, path: &str, line: &[u8]) {
-    if line.starts_with(b"key =") || line.starts_with(b"key=") {
-        let _ = eprintln!(rt;
-            "tacd: {path}: its first line begins with 'key'; the whole line is taken for the key"
-        );
+    if let Some(doubt) = KeyDoubt::of(line) {
+        let _ = eprintln!(rt; "tacd: {path}: {doubt}");
     }
 }
 
@@ -171,21 +174,6 @@ where
     }
 }
 
-fn address_of<R: Eprint>(rt: &R, matches: &ArgMatches<'_>) -> Result<IpAddr, Status> {
-    match matches.get_one::<IpAddr>(ADDRESS) {
-        Some(address) => Ok(address),
-        None => {
-            let word = word_of(matches, ADDRESS);
-            let _ = eprintln!(rt;
-                "error: invalid value '{word}' for '--address <ADDR>': invalid IP address syntax
-
-For more information, try '--help'."
-            );
-            Err(Status::BadCommandLine)
-        }
-    }
-}
-
 // How many workers there are: as many as the option says, where it is given; else one for each
 // processor, or the most where each waits for the disk before it replies.
 fn workers_of(given: Option<u32>, syncs: bool, processors: usize) -> u32
@@ -206,11 +194,6 @@ fn hashers_of(processors: usize) -> u32
     processors.saturating_sub(1).clamp(1, 4) as u32
 }
 
-// The address with the port, if there is one.
-fn socket_address(address: IpAddr, port: Option<u16>) -> Option<SocketAddr> {
-    Some(SocketAddr::from((address, port?)))
-}
-
 // The same text, if there is one.
 fn copy_of<R: Eprint + AllocGlobal>(rt: &R, text: Option<&str>) -> Result<Option<Bytes>, Status> {
     let Some(text) = text else {
@@ -218,23 +201,29 @@ fn copy_of<R: Eprint + AllocGlobal>(rt: &R, text: Option<&str>) -> Result<Option
     };
     match Bytes::from_slice(rt.alloc(), text.as_bytes()) {
         Ok(copy) => Ok(Some(copy)),
-        Err(_) => {
-            let _ = eprintln!(rt; "tacd: memory ran out");
-            Err(Status::OutOfMemory)
-        }
+        Err(_) => Err(out_of_memory(rt)),
     }
+}
+
+// Where a server listens, as it is printed.
+#[derive(Drop)]
+struct Places {
+    address: Option<Bytes>,
+    proxy: Option<Bytes>,
 }
 
 // The numbers of a command line that was parsed, which has each of them within its bounds, on a
 // machine with so many processors.
 fn settings_of(
     matches: &ArgMatches<'_>,
-    proxy: Option<Bytes>,
+    places: Places,
     callers: Callers,
     processors: usize,
 ) -> Option<Settings> {
+    let Places { address, proxy } = places;
     Some(Settings {
         port: matches.get_one::<u16>(PORT),
+        address,
         proxy,
         callers,
         workers: workers_of(
@@ -285,13 +274,17 @@ impl<'a> Options<'a> {
         let address = address_of(rt, matches)?;
         let callers = callers_of(rt, matches)?;
         let proxy = matches.get_str(PROXY);
-        let path = copy_of(rt, proxy)?;
-        match settings_of(matches, path, callers, processors) {
+        let places = Places {
+            address: address_text(rt, address)?,
+            proxy: copy_of(rt, proxy)?,
+        };
+        match settings_of(matches, places, callers, processors) {
             Some(settings) => Ok(Options {
                 address: socket_address(address, settings.port),
                 proxy,
                 settings,
                 path: word_of(matches, FILE),
+                key_file: matches.get_str(KEY_FILE),
                 devices: matches.get_str(DEVICES_FILE),
                 record_limit: record_limit_of(matches.get_one::<u32>(KEEP_RECORDS)),
                 log: matches.get_str(LOG),
@@ -304,5 +297,17 @@ impl<'a> Options<'a> {
             }),
             None => Err(Status::BadCommandLine),
         }
+    }
+
+    /// What no file of edits may be.
+    pub(crate) fn uses(&self) -> [Use<'a>; 6] {
+        [
+            Use::of(Some(self.path), "it is the policy's own file"),
+            Use::of(self.key_file, "it is the key's file"),
+            Use::of(self.devices, "it is the devices' file"),
+            Use::of(self.log, "it is the log's file"),
+            Use::of(self.console, "it is the console's socket"),
+            Use::of(self.proxy, "it is the proxy's socket"),
+        ]
     }
 }

@@ -95,7 +95,7 @@ fn serve_clients<R, H>(rt: &R, host: &H, matches: &ArgMatches<'_>) -> Status
 where
     R: Files + Input + Print + Eprint + AllocGlobal,
     H: Threads + Wait + Clock + Sync + AllocGlobal + Eprint + LogFiles + ConsoleHost + KeepFiles,
-    H: Net<Listener = TcpListener, Stream = TcpStream>,
+    H: Net<Listener = TcpListener, Stream = TcpStream> + Copy + Send + Drop + 'static,
 {
     let outcome = match Options::read(rt, matches, processors(host)) {
         Ok(options) => serve_by(rt, host, &options),
@@ -143,7 +143,7 @@ fn carry_out<R, H>(rt: &R, host: &H, matches: &ArgMatches<'_>) -> Status
 where
     R: Env + Files + Input + Print + Eprint + AllocGlobal,
     H: Threads + Wait + Clock + Sync + AllocGlobal + Eprint + LogFiles + ConsoleHost + KeepFiles,
-    H: Net<Listener = TcpListener, Stream = TcpStream>,
+    H: Net<Listener = TcpListener, Stream = TcpStream> + Copy + Send + Drop + 'static,
 {
     if let Some(options) = matches.subcommand_matches(SERVE) {
         return serve_clients(rt, host, options);
@@ -161,7 +161,7 @@ fn obey<R, H>(rt: &R, host: &H, words: &[String]) -> Status
 where
     R: Env + Files + Input + Print + Eprint + AllocGlobal,
     H: Threads + Wait + Clock + Sync + AllocGlobal + Eprint + LogFiles + ConsoleHost + KeepFiles,
-    H: Net<Listener = TcpListener, Stream = TcpStream>,
+    H: Net<Listener = TcpListener, Stream = TcpStream> + Copy + Send + Drop + 'static,
 {
     match parse(rt.alloc(), words) {
         Ok(matches) => carry_out(rt, host, &matches),
@@ -179,7 +179,7 @@ pub fn run<R, H>(rt: &R, host: &H) -> ExitCode
 where
     R: Env + Files + Input + Print + Eprint + AllocGlobal,
     H: Threads + Wait + Clock + Sync + AllocGlobal + Eprint + LogFiles + ConsoleHost + KeepFiles,
-    H: Net<Listener = TcpListener, Stream = TcpStream>,
+    H: Net<Listener = TcpListener, Stream = TcpStream> + Copy + Send + Drop + 'static,
 {
     let status = match words_of(rt) {
         Ok(words) => obey(rt, host, words.as_slice()),

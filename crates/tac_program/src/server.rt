@@ -6,6 +6,7 @@
 ghost use Rattle.std.specs.Prelude.{◌≡◌, ◌⊎◌, IfErr};
 ghost use Rattle.tac_program.specs.Ending.{end_of_serving};
 
+use crate::address::warn_of_ipv6_alone;
 use crate::complaint::{complain, name_lint};
 use crate::console::{ConsoleInput, NoConsole};
 use crate::descriptors::warn_of_few;
@@ -13,6 +14,7 @@ use crate::keeping::{first_file, tell_of_edits};
 use crate::opening::{open_desk, open_secret};
 use crate::operators::serve_operators;
 use crate::options::Options;
+use crate::serving_host::{ServingHost, complaints_of};
 use crate::source::{ConsoleSide, DevicesFile, SecretFile};
 use crate::status::Status;
 use std::cell::RefCell;
@@ -23,8 +25,9 @@ use std::rt::Files;
 use std::sync::Wait;
 use std::thread::Threads;
 use std::time::Clock;
-use tac_desk::Desk;
+use tac_desk::{Desk, Query, Report};
 use tac_desks::LiveDesk;
+use tac_hall_console::has_user;
 use tac_journal::{Journal, LogFiles, OneInput, Typists};
 use tac_keep::KeepFiles;
 use tac_net::{FillingDesk, Listeners, Port, ProxySocket, ServeFault, ServerFiles, serve};
@@ -36,6 +39,19 @@ use tac_tally::RecordLimit;
 /// proxy's where the folder is.
 const PROXY_MODE: u32 = 0o660;
 
+// Says that nobody can log in by a policy, where it has no user. It doesn't matter whether this could
+// be written.
+fn warn_of_nobody<R: Eprint>(rt: &R, path: &str, desk: &mut LiveDesk) {
+    let Ok(report) = desk.query(&Query::Policy) else {
+        return;
+    };
+    if let Report::Policy(policy) = &*report.first {
+        if !has_user(policy) {
+            let _ = eprintln!(rt; "tacd: {path}: the policy has no user: nobody can log in");
+        }
+    }
+}
+
 // The desk of the policy in a file, which keeps records as the limit says. The error here and below
 // is the status to end with.
 fn desk_of_file<R: Files + Print + Eprint + AllocGlobal>(
@@ -45,7 +61,10 @@ fn desk_of_file<R: Files + Print + Eprint + AllocGlobal>(
 ) -> Result<LiveDesk, Status> {
     let mut file = open_secret(rt, path)?;
     match open_desk(rt.alloc(), limit, &mut file, &mut io::writer(rt)) {
-        Ok(Some(desk)) => Ok(desk),
+        Ok(Some(mut desk)) => {
+            warn_of_nobody(rt, path, &mut desk);
+            Ok(desk)
+        }
         Ok(None) => {
             name_lint(rt, path);
             Err(Status::Refused)
@@ -159,14 +178,14 @@ pub(crate) fn watched<'a, H: Eprint, D: Desk>(
 }
 
 // The devices' file that may be read again, if there is one.
-fn devices_file<'a, R: Files + Eprint, H>(
+fn devices_file<'a, R: Files, H: Eprint>(
     rt: &'a R,
     host: &'a H,
     options: &'a Options<'_>,
 ) -> Option<DevicesFile<'a, R, H>> {
     match (options.devices, options.settings.callers.directory()) {
         (Some(path), Some(directory)) => Some(DevicesFile {
-            file: SecretFile::of_devices(rt, path),
+            file: SecretFile::of_devices(rt, host, path),
             locks: host,
             directory,
             taken: RefCell::new(None),
@@ -191,7 +210,7 @@ where
 {
     let (mut input, mut output, typists) = console;
     let source = ConsoleSide {
-        policy: SecretFile::of_policy(rt, options.path),
+        policy: SecretFile::of_policy(rt, host, options.path),
         devices: devices_file(rt, host, options),
         typists,
     };
@@ -242,15 +261,60 @@ pub(crate) fn ended<R: Eprint>(rt: &R, outcome: Result<(), ServeFault>) -> Resul
     }
 }
 
+// Serves a desk as the options say, until its console ends it. The reason of a fault was said.
+fn serve_at<R, H>(
+    rt: &R,
+    host: &H,
+    options: &Options<'_>,
+    desk: LiveDesk,
+    journal: &Option<Journal<'_>>,
+    listeners: &Listeners,
+) -> Result<(), Status>
+where
+    R: Files + Input + Print + Eprint + AllocGlobal,
+    H: Threads + Wait + Clock + Sync + AllocGlobal + Eprint + LogFiles + Net + ConsoleHost,
+    H: KeepFiles,
+{
+    if let Some(path) = options.console {
+        return serve_operators(rt, host, options, desk, journal, listeners, path);
+    }
+    let outcome = if options.has_console {
+        let input = ConsoleInput::new(host, rt.reader());
+        let console = (input, io::writer(rt), OneInput);
+        serve_console(rt, host, options, desk, journal, listeners, console)
+    } else {
+        let input = NoConsole {
+            clock: host,
+            listeners,
+        };
+        let console = (input, io::writer(rt), OneInput);
+        serve_console(rt, host, options, desk, journal, listeners, console)
+    };
+    ended(host, outcome)
+}
+
 /// Serves as the options say, until its console ends it: a socket's, the runtime's input and
-/// output, or no input at all. Threads, sockets and the log are the host's.
+/// output, or no input at all. Threads, sockets and the log are the host's. What is said on
+/// standard error from its first connection on is written by a thread of its own, and the server's
+/// end waits for that no longer than a second.
 pub(crate) fn serve_by<R, H>(rt: &R, host: &H, options: &Options<'_>) -> Result<(), Status>
 where
     R: Files + Input + Print + Eprint + AllocGlobal,
     H: Threads + Wait + Clock + Sync + AllocGlobal + Eprint + LogFiles + Net + ConsoleHost,
-    H: KeepFiles + Net<Listener = TcpListener, Stream = TcpStream>,
+    H: KeepFiles + Net<Listener = TcpListener, Stream = TcpStream> + Copy + Send + Drop + 'static,
 {
+    // its lock is held until the server has ended
     let first = first_file(rt, host, options)?;
+    serve_first(rt, host, options, first.path)
+}
+
+// The same, where the policy is at first that of this file.
+fn serve_first<R, H>(rt: &R, host: &H, options: &Options<'_>, first: &str) -> Result<(), Status>
+where
+    R: Files + Input + Print + Eprint + AllocGlobal,
+    H: Threads + Wait + Clock + Sync + AllocGlobal + Eprint + LogFiles + Net + ConsoleHost,
+    H: KeepFiles + Net<Listener = TcpListener, Stream = TcpStream> + Copy + Send + Drop + 'static,
+{
     let desk = desk_of_file(rt, options.record_limit, first)?;
     if first != options.path {
         options.tray.begin_with_edits();
@@ -259,20 +323,16 @@ where
     let journal = journal_of(rt, host, options)?;
     let listeners = listeners_of(rt, host, options)?;
     warn_of_few(rt, &options.settings);
-    if let Some(path) = options.console {
-        return serve_operators(rt, host, options, desk, &journal, &listeners, path);
-    }
-    let outcome = if options.has_console {
-        let input = ConsoleInput::new(rt, rt.reader());
-        let console = (input, io::writer(rt), OneInput);
-        serve_console(rt, host, options, desk, &journal, &listeners, console)
-    } else {
-        let input = NoConsole {
-            clock: host,
-            listeners: &listeners,
-        };
-        let console = (input, io::writer(rt), OneInput);
-        serve_console(rt, host, options, desk, &journal, &listeners, console)
+    warn_of_ipv6_alone(rt, options.address);
+    let complaints = match complaints_of(host) {
+        Ok(complaints) => complaints,
+        Err(fault) => return ended(rt, Err(fault)),
     };
-    ended(rt, outcome)
+    let serving = ServingHost {
+        host,
+        complaints: &complaints,
+    };
+    let outcome = serve_at(rt, &serving, options, desk, &journal, &listeners);
+    complaints.settle(host);
+    outcome
 }

@@ -45,19 +45,22 @@ fn read<F: Read>(alloc: Global, path: &str, file: &mut F, most: usize) -> Result
     }
 }
 
-/// A file with secrets, which is opened and read each time that its text is asked for.
+/// A file with secrets, which is opened and read each time that its text is asked for. What is
+/// remarked on it is said on the host's standard error.
 #[derive(Drop)]
-pub(crate) struct SecretFile<'a, R> {
-    pub(crate) host: &'a R,
+pub(crate) struct SecretFile<'a, R, H> {
+    pub(crate) rt: &'a R,
+    pub(crate) host: &'a H,
     pub(crate) path: &'a str,
     /// The most bytes that it may have.
     pub(crate) most: usize,
 }
 
-impl<'a, R: Files + Eprint> SecretFile<'a, R> {
+impl<'a, R: Files, H: Eprint> SecretFile<'a, R, H> {
     /// That of a policy.
-    pub(crate) fn of_policy(host: &'a R, path: &'a str) -> SecretFile<'a, R> {
+    pub(crate) fn of_policy(rt: &'a R, host: &'a H, path: &'a str) -> SecretFile<'a, R, H> {
         SecretFile {
+            rt,
             host,
             path,
             most: MAX_INPUT,
@@ -65,8 +68,9 @@ impl<'a, R: Files + Eprint> SecretFile<'a, R> {
     }
 
     /// That of devices.
-    pub(crate) fn of_devices(host: &'a R, path: &'a str) -> SecretFile<'a, R> {
+    pub(crate) fn of_devices(rt: &'a R, host: &'a H, path: &'a str) -> SecretFile<'a, R, H> {
         SecretFile {
+            rt,
             host,
             path,
             most: Devices::MAX_TEXT,
@@ -75,10 +79,10 @@ impl<'a, R: Files + Eprint> SecretFile<'a, R> {
 
     fn text(&self, alloc: Global) -> Result<Vec<u8>, Unread> {
         let path = self.path;
-        if is_folder(self.host, path) {
+        if is_folder(self.rt, path) {
             return Err(why(format!(in alloc; "{path}: it is a folder")));
         }
-        match fs::open(self.host, path) {
+        match fs::open(self.rt, path) {
             Ok(file) => {
                 let mut file = file;
                 warn_of_readers(self.host, path, &file);
@@ -92,14 +96,14 @@ impl<'a, R: Files + Eprint> SecretFile<'a, R> {
 /// The devices' file of a server, and the directory whose devices it says.
 #[derive(Drop)]
 pub(crate) struct DevicesFile<'a, R, H> {
-    pub(crate) file: SecretFile<'a, R>,
+    pub(crate) file: SecretFile<'a, R, H>,
     pub(crate) locks: &'a H,
     pub(crate) directory: &'a Directory,
     // the text that was taken last
     pub(crate) taken: RefCell<Option<Vec<u8>>>,
 }
 
-impl<R: Files + Eprint, H: Wait> DevicesFile<'_, R, H> {
+impl<R: Files, H: Wait + Eprint> DevicesFile<'_, R, H> {
     // Whether it is the text whose devices count already.
     fn is_taken(&self, text: &[u8]) -> bool {
         match self.taken.try_borrow() {
@@ -144,12 +148,12 @@ impl<R: Files + Eprint, H: Wait> DevicesFile<'_, R, H> {
 /// there.
 #[derive(Drop)]
 pub(crate) struct ConsoleSide<'a, R, H, T> {
-    pub(crate) policy: SecretFile<'a, R>,
+    pub(crate) policy: SecretFile<'a, R, H>,
     pub(crate) devices: Option<DevicesFile<'a, R, H>>,
     pub(crate) typists: T,
 }
 
-impl<R: Files + Eprint, H: Wait, T> Source for ConsoleSide<'_, R, H, T> {
+impl<R: Files, H: Wait + Eprint, T> Source for ConsoleSide<'_, R, H, T> {
     fn text(&self, alloc: Global) -> Result<Vec<u8>, Unread> {
         self.policy.text(alloc)
     }
@@ -159,6 +163,13 @@ impl<R: Files + Eprint, H: Wait, T> Source for ConsoleSide<'_, R, H, T> {
             Some(devices) => devices.reload(alloc),
             None => no_devices(alloc),
         }
+    }
+
+    fn warn(&self, line: &[u8]) {
+        // The answer tells it too, so it doesn't matter whether this could be written.
+        let path = self.policy.path;
+        let line = str::from_utf8(line).unwrap_or("").trim_end();
+        let _ = eprintln!(self.policy.host; "tacd: {path}: {line}");
     }
 }
 
