@@ -22,6 +22,8 @@ By each of the two proxies:
 - A device without `tls`, one with another's certificate, one that isn't listed, and at the port one
   without a key are closed, and told as what they are, by their own addresses.
 - 1,000 connections at once, one more than there may be, a silent one, and a move from a key to TLS.
+- By a haproxy that lets devices through without a certificate, with one of another CA, or without
+  TLS, none of them is served.
 - The server ends and starts again, and the proxy reaches the next one. Checks of haproxy aren't
   counted.
 At the socket without a proxy:
@@ -97,6 +99,8 @@ def try_proxy(program, kind, top, authority, other):
             through.try_crowd(trial)
             through.try_silence(trial)
             if kind is Haproxy:
+                through.try_optional(trial, kind(places, authority, "optional"), other)
+                through.try_plain(trial, kind(places, authority, "plain"))
                 through.try_checks(trial, kind(places, authority, "checking"))
             through.try_restart(trial)
         if kind is Haproxy:

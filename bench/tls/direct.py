@@ -11,7 +11,9 @@ import subprocess
 import time
 
 import headers
-from headers import LOCAL, PROXY, TCP4, TCP6, UDP4, UNIX, UNSPEC, USED, binary, line, vector
+from headers import (
+    LOCAL, PROXY, SHOWN, TCP4, TCP6, UDP4, UNIX, UNSPEC, USED, binary, certificate, line, vector,
+)
 from judging import holds, judge, settles
 from packets import (
     CLOSED, KEPT, PERMITTED, SHOW, SINGLE, Clear, Padded, ends, is_permitted, packet, part_of,
@@ -26,7 +28,8 @@ NAME = b"core-1.example.net"
 TELLS_NAME = headers.certificate(NAME)
 LONG = b"c" * 64
 SERVED, BAD, PASSED_OVER = "served", "bad proxy header", "passed over"
-UNKNOWN, NO_TLS, OTHER = "unknown device", "no tls", "other certificate"
+UNKNOWN, NO_TLS = "unknown device", "no tls"
+UNVERIFIED, OTHER = "no certificate", "other certificate"
 PATIENCE = (9.5, 11.5)
 PENDING = 200
 # So many connections, after as many that warm the server up, and what they may leave behind.
@@ -72,11 +75,11 @@ HEADERS = {
     "as haproxy's check": (
         headers.raw(LOCAL, UNSPEC, vector(headers.SSL, bytes(5))), PASSED_OVER,
     ),
-    "a line UNKNOWN": (b"PROXY UNKNOWN\r\n", PASSED_OVER),
-    "a line UNKNOWN with more": (b"PROXY UNKNOWN ::1 ::1 1 2\r\n", PASSED_OVER),
-    "no family": (headers.raw(PROXY, UNSPEC, b""), PASSED_OVER),
-    "UDP": (headers.raw(PROXY, UDP4, headers.addresses(ANY)), PASSED_OVER),
-    "a Unix socket": (headers.raw(PROXY, UNIX, bytes(216)), PASSED_OVER),
+    "a line UNKNOWN": (b"PROXY UNKNOWN\r\n", BAD),
+    "a line UNKNOWN with more": (b"PROXY UNKNOWN ::1 ::1 1 2\r\n", BAD),
+    "no family": (headers.raw(PROXY, UNSPEC, b""), BAD),
+    "UDP": (headers.raw(PROXY, UDP4, headers.addresses(ANY)), BAD),
+    "a Unix socket": (headers.raw(PROXY, UNIX, bytes(216)), BAD),
     "an address of nobody": (line(NOBODY), UNKNOWN),
     "an address of nobody, with a name": (binary(NOBODY, TELLS_NAME), UNKNOWN),
     "a device without tls": (line(ACCESS), NO_TLS),
@@ -85,8 +88,16 @@ HEADERS = {
     "a beginning of the name": (binary(CORE_1, headers.certificate(NAME[:-1])), OTHER),
     "more than the name": (binary(CORE_1, headers.certificate(NAME + b"\0")), OTHER),
     "the name in capitals": (binary(CORE_1, headers.certificate(NAME.upper())), OTHER),
-    "a name that wasn't verified": (binary(CORE_1, headers.certificate(NAME, verify=1)), OTHER),
-    "a name of no certificate": (binary(CORE_1, headers.certificate(NAME, client=USED)), OTHER),
+    "nothing of certificates": (binary(CORE_1), OTHER),
+    "a name that wasn't verified": (binary(CORE_1, certificate(NAME, verify=1)), UNVERIFIED),
+    "a name of no certificate": (binary(CORE_1, certificate(NAME, client=USED)), UNVERIFIED),
+    "a name without TLS": (binary(CORE_1, certificate(NAME, client=SHOWN)), UNVERIFIED),
+    "any name, not verified": (binary(ANY, certificate(NAME, verify=1 << 31)), UNVERIFIED),
+    "any name, of no certificate": (binary(ANY, certificate(None, client=USED)), UNVERIFIED),
+    "any name, without TLS": (binary(ANY, vector(headers.SSL, bytes(5))), UNVERIFIED),
+    "no certificate of a device without tls": (
+        binary(ACCESS, certificate(None, client=USED)), NO_TLS,
+    ),
     "a name of 65 bytes": (binary(ANY, headers.certificate(LONG + b"c")), SERVED),
 }
 # Names as the log has them, and how it has them.

@@ -216,9 +216,9 @@ def try_revoked(trial, proxy):
 # ---- who may come
 
 
-def turned_away(trial, source, pair):
+def turned_away(trial, source, pair, context=None):
     """What the client sees of a connection that the server refuses, and its address."""
-    with trial.device(source, pair) as stream:
+    with trial.device(source, pair, context) as stream:
         address = stream.getsockname()
         try:
             stream.sendall(packet(Clear(), SHOW, 1))
@@ -275,6 +275,43 @@ def is_permitted_or_closed(stream):
         return is_permitted(stream)
     except ssl.SSLError:
         return False
+
+
+def try_optional(trial, proxy, other):
+    """A proxy that lets devices through whose certificate it can't verify, or that show none. The
+    server closes them, for whichever certificates their block has."""
+    proxy.start((" verify required", " verify optional ca-ignore-err all crt-ignore-err all"))
+    with contextlib.ExitStack() as stack:
+        stack.push(proxy.__exit__)
+        optional, numbers = Trial(trial.server, proxy, trial.authority), trial.numbers()
+        foreign = trial.authority.context(other.pair(DEVICE))
+        for source in ANY, CORE_1:
+            for what, context in ("none", trial.authority.context()), ("one of another CA", foreign):
+                found, _ = turned_away(optional, source, None, context)
+                trial.judge(f"{source} with {what}, where certificates are optional", found, CLOSED)
+                numbers.refused("no certificate")
+            with optional.device(source) as stream:
+                trial.judge(f"{source} with its own", is_permitted(stream), True)
+            numbers.served()
+            numbers.told("command PASS_ADD")
+        numbers.judge("where certificates are optional")
+
+
+def try_plain(trial, proxy):
+    """A port of the proxy without TLS. The server takes nothing that comes by it."""
+    inside = " ssl crt /etc/tacacss/server.pem ca-file /etc/tacacss/ca.pem verify required"
+    proxy.start((f"{inside} ssl-min-ver TLSv1.3", ""))
+    with contextlib.ExitStack() as stack:
+        stack.push(proxy.__exit__)
+        # It was called once to see whether it serves.
+        time.sleep(1)
+        numbers = trial.numbers()
+        for source in ANY, CORE_1:
+            with socket.create_connection(("127.0.0.1", proxy.port), 10, (source, 0)) as plain:
+                plain.sendall(packet(Clear(), SHOW, 1))
+                trial.judge(f"{source} without TLS", reply(plain, Clear()), CLOSED)
+            numbers.refused("no certificate")
+        numbers.judge("at a port without TLS")
 
 
 def try_few(trial):
