@@ -2,18 +2,23 @@
 are too long to be stored, or whose devices have to pass a check, and looks at the files that an import
 writes."""
 
+import functools
 import os
 import pathlib
 import subprocess
 import tempfile
 
 from cases import Case, Check, Outcome, Play, Wrong
+from tac_plus.comparing import Compared
+from tac_plus.drawing import configuration, lines
 
 # What is told of something that was left out ends so.
 LEFT_OUT = (
     ": left out", "reading is left out", "is left out and denied", "is denied from here on",
 )
 LONGEST_RUN = 60
+# How many configurations are drawn, so many for a case, and how many lines of each are compared.
+DRAWN, TOGETHER, LINES = 40, 5, 60
 
 
 def read_import(path, name):
@@ -45,8 +50,29 @@ def cases(name):
         keys_of_each_length,
         keys_that_are_not_written,
     ):
-        expected = Outcome(b"", b"", 0)
-        yield Case(f"{name}: {play.__name__}", [Check(Play(play), expected, "the import")])
+        yield case(f"{name}: {play.__name__}", play)
+    for first in range(0, DRAWN, TOGETHER):
+        play = functools.partial(drawn_configurations, first)
+        yield case(f"{name}: drawn_configurations, from {first} on", play)
+
+
+def case(name, play):
+    return Case(name, [Check(Play(play), Outcome(b"", b"", 0), "the import")])
+
+
+def drawn_configurations(first, program):
+    """What a policy says of users, groups and lines, and what is told, is what the reference finds. Of
+    most lines it is compared."""
+    count = 0
+    with tempfile.TemporaryDirectory(prefix="tacd-test-") as folder:
+        for number in range(first, first + TOGETHER):
+            compared = Compared(program, folder, configuration(f"tests-{number}", "of-"))
+            compared.compare(lines(f"tests-{number}", compared.meaning, LINES))
+            count += compared.lines_compared
+            if compared.found:
+                raise Wrong(f"{compared.text}\nis imported so that:\n{compared.found}")
+    if count < TOGETHER * LINES * 2 // 3:
+        raise Wrong(f"only {count} lines could be compared")
 
 
 def names_that_are_made_up(program):
@@ -279,10 +305,11 @@ def the_deepest_parentheses(program):
 
 def the_longest_words(program):
     """A word may have any length where nothing is made of it, and what stands behind it is read."""
-    word = "x y " * 100_000
+    words = "x y " * 100_000
+    word = words.replace(" ", "")
     made(
         program,
-        f'user = bob {{ name = "{word}" # {word}\nmessage = {word.replace(" ", "")}\nlogin = cleartext "{word}"\n'
+        f'user = bob {{ name = "{words}" # {words}\nmessage = {word}\nlogin = cleartext "{words}"\n'
         "enable = cleartext z }\n",
         "policy 2\nuser bob\nenable z\n",
         "",
@@ -368,7 +395,8 @@ def keys_are_written(program):
             for name in ("key", "devices") if before else ():
                 (folder / name).write_bytes(before)
                 (folder / name).chmod(mode)
-            ran = run(program, folder, "import", "--key-to", "key", "--devices-to", "devices", "conf", umask=0)
+            options = ("--key-to", "key", "--devices-to", "devices")
+            ran = run(program, folder, "import", *options, "conf", umask=0)
             came = (ran.stdout, ran.stderr, ran.returncode)
             compare("what comes", (b"policy 2\n", told.encode(), 0), came)
             for name, content in (("key", key), ("devices", devices)):

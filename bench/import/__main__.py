@@ -1,13 +1,15 @@
 """Compares what `tacd import` makes of configurations of tac_plus with what these mean.
 
-A reference (meaning.py) reads a configuration and decides command lines by it, as the user's guide
-of tac_plus F4.0.4 says. It knows nothing of patterns, policies or this program. Configurations are
-drawn (drawing.py): users and groups, defaults, shells, commands with expressions of all kinds. Each
-is imported, and what was decided of its lines is a table for `tacd test`, which has to find each so.
-Every policy has to pass `tacd check`. Where the import tells that a rule was left out, the lines of
-that command aren't compared. What it tells of services without `default attribute = permit`, of
-hashes that aren't taken, and of expressions that older builds of tac_plus read otherwise is compared
-line by line (remarks.py); both kinds of expressions are read by expressions.py.
+A reference (tests/tac_plus/meaning.py) reads a configuration and decides by it, as the user's guide of
+tac_plus F4.0.4 says. It knows nothing of patterns, policies or this program. Configurations are drawn
+(tests/tac_plus/drawing.py): users and groups, up to 8 above one another, with blocks for the same
+commands and services, defaults, shells, passwords of all kinds, commands with expressions of all kinds,
+and some subjects with about 256 rules. Each is imported, and what was decided of its lines and its
+services is a table for `tacd test`, which has to find each so. Every policy has to pass `tacd check`, and
+to have the secrets of the configuration. Where the import tells that a rule was left out, or that there
+were too many, nobody may gain a line by that. All else that it tells is compared line by line
+(tests/tac_plus/remarks.py); both kinds of expressions are read by tests/tac_plus/expressions.py.
+tests/imports.py compares some such configurations, too.
 
     python3 bench/import [--seed N] [--count N] [--lines N] [PROGRAM]
     python3 bench/import garbage [PROGRAM]
@@ -29,20 +31,19 @@ was no difference, else 1.
 
 import argparse
 import pathlib
-import subprocess
 import sys
 import tempfile
 
 import garbage
-import remarks
-from drawing import configuration, lines
-from meaning import Meaning
 
-BUILT = pathlib.Path(__file__).resolve().parents[2] / "crates/tacd/out/tacd"
-# What is told of a rule that was left out begins so, after its line.
-UNSAID = ("permit '", "deny '")
-# What is told of something that was left out ends so.
-LEFT_OUT = ("left out", "denied from here on")
+TOP = pathlib.Path(__file__).resolve().parents[2]
+BUILT = TOP / "crates/tacd/out/tacd"
+sys.path.append(str(TOP / "tests"))
+sys.dont_write_bytecode = True
+
+from tac_plus.comparing import Compared  # noqa: E402
+from tac_plus.drawing import configuration, lines  # noqa: E402
+from tac_plus.meaning import Meaning  # noqa: E402
 
 
 def main():
@@ -73,85 +74,36 @@ def read_arguments():
     return arguments
 
 
-def table(meaning, asked):
-    """The cases that a configuration makes of users and lines."""
-    verdicts = {True: "permit", False: "deny"}
-    return [f"{verdicts[meaning.permits(user, line)]} {user} {line}" for user, line in asked]
-
-
 def compare_all(arguments):
-    program = arguments.path or BUILT
-    differ = compared = skipped = 0
+    differ = count = asked_for = services = 0
     with tempfile.TemporaryDirectory() as folder:
         for number in range(arguments.count):
             name = f"{arguments.seed}-{number}"
-            text = configuration(name, f"c{number}-")
-            asked = lines(name, text, arguments.lines)
-            found, count = compare(program, pathlib.Path(folder), text, asked)
-            compared += count
-            skipped += len(asked) - count
-            if found:
+            compared = Compared(arguments.path or BUILT, folder, configuration(name, f"c{number}-"))
+            compared.compare(lines(name, compared.meaning, arguments.lines))
+            count += compared.lines_compared
+            services += compared.services_compared
+            asked_for += arguments.lines
+            if compared.found:
                 differ += 1
-                print(f"== configuration {name}\n{text}\n{found}")
-    print(f"{arguments.count} configurations, {compared} lines compared, {skipped} of commands with a"
-          f" rule that was left out, {differ} configurations differ")
+                print(f"== configuration {name}\n{compared.text}\n{compared.told}\n{compared.found}")
+    print(f"{arguments.count} configurations, {count} lines compared, {asked_for - count} that are permitted"
+          f" by what was left out, {services} cases of services, {differ} configurations differ")
     return 1 if differ else 0
 
 
-def compare(program, folder, text, asked):
-    """What differs, if anything, and how many cases were compared."""
-    meaning = Meaning(text)
-    source, policy, cases = (folder / it for it in ("tac_plus.conf", "policy", "cases"))
-    source.write_text(text)
-    told = run(program, "import", source)
-    if told.returncode not in (0, 5):
-        return told.stdout + told.stderr, 0
-    policy.write_text(told.stdout)
-    checked = run(program, "check", policy)
-    if checked.returncode != 0:
-        return checked.stdout, 0
-    found = remarks.differing(meaning, told.stderr)
-    left_out = any(what.endswith(LEFT_OUT) for _, what in remarks.parsed(told.stderr))
-    if told.returncode != (5 if left_out else 0):
-        found += f"the status is {told.returncode}\n"
-    kept = without_unsaid(text, told.stderr, table(meaning, asked))
-    cases.write_text("\n".join(kept) + "\n")
-    tested = run(program, "test", policy, cases)
-    return found + ("" if tested.returncode == 0 else tested.stdout + told.stdout), len(kept)
-
-
-def without_unsaid(text, told, cases):
-    """The cases about commands of which every rule was said."""
-    numbered = text.split("\n")
-    gone = set()
-    for number, what in remarks.parsed(told):
-        if what.startswith(UNSAID) and not what.endswith(remarks.OLDER):
-            gone.add(command_at(numbered, number))
-    return [case for case in cases if (case.split(" ") + [""])[2] not in gone]
-
-
-def command_at(numbered, number):
-    """The command whose block has this line."""
-    for line in reversed(numbered[:number]):
-        if "cmd = " in line:
-            return line.split("cmd = ")[1].split()[0].strip('"')
-    raise ValueError(f"line {number} is in no block of a command")
-
-
-def run(program, *words):
-    words = [str(word) for word in (program, *words)]
-    return subprocess.run(words, capture_output=True, text=True, timeout=120, check=False)
-
-
 def write_files(arguments):
+    """A table has all lines, also those of commands with a rule that no policy says."""
     arguments.path.mkdir(parents=True, exist_ok=True)
     for first in range(0, arguments.count, arguments.together):
         texts, cases = [], []
         for number in range(first, min(first + arguments.together, arguments.count)):
             name = f"{arguments.seed}-{number}"
             text = configuration(name, f"c{number}-")
+            meaning = Meaning(text)
             texts.append(text)
-            cases += table(Meaning(text), lines(name, text, arguments.lines))
+            for user, line in lines(name, meaning, arguments.lines):
+                cases.append(f"{'permit' if meaning.permits(user, line) else 'deny'} {user} {line}")
         (arguments.path / f"{first}.conf").write_text("".join(texts))
         (arguments.path / f"{first}.cases").write_text("\n".join(cases) + "\n")
     return 0
