@@ -1,0 +1,946 @@
+"""What a server counts and tells: by `status`, on standard error and in its log. Each number of `status`
+is looked at before and after each event, and each that isn't of this event has to stay as it was.
+Clocks and failures are those of judged.py, so nobody waits for them. Each case is a function, as in
+served.py."""
+
+import contextlib
+import errno
+import json
+import os
+import pathlib
+import re
+import resource
+import signal
+import socket
+import struct
+import tempfile
+import threading
+import time
+
+from cases import Case, Check, Outcome, Play, Wrong
+from crowded import LOGINS
+from generated import asked, given
+from judged import (
+    CLOCK_NANOSLEEP,
+    CLONE3,
+    EPOLL_CREATE1,
+    EPOLL_CTL,
+    FDATASYNC,
+    WRITE,
+    Clock,
+    Judged,
+)
+from operated import Operator, replace, starts, stops, told
+from proxied import called, header, line
+from served import (
+    ASK,
+    CLOSING,
+    KEPT,
+    KEY,
+    LONGEST_WAIT,
+    PERMITTED,
+    RECORD,
+    STORED,
+    Server,
+    answer,
+    connect,
+    is_answered,
+    is_closed,
+    is_permitted,
+    packet,
+    require,
+)
+
+POLICY = "group ops\npermit show .*\nuser bob in ops\nlogin blue-lake\n"
+OTHER_KEY, NEW_KEY, OLD_KEY = b"tundra and taiga", b"wintry-tundra-ridge-41", b"wide-kelp-forest-0092"
+# One with a key, one with an old key too, one that comes by a proxy alone, with its own certificate, and
+# one that does so with any.
+LISTED = f"""device one
+at 127.0.0.1
+key {NEW_KEY.decode()}
+connections 2
+device two
+at 127.0.0.2
+key {OLD_KEY.decode()}
+old-key {OTHER_KEY.decode()}
+device inside
+at 127.0.0.5
+at 192.0.2.3
+tls core-1.example
+device any
+at 192.0.2.2
+tls
+"""
+# These change by themselves.
+APART = ("tacd_uptime_seconds", "tacd_memory_bytes")
+ENDED = (
+    "finished unlisted protocol idle login_idle not_taken packet_memory read write log hashing memory "
+    "server"
+)
+REFUSED = "unknown_device at_once per_address served memory"
+REFUSED_BY_PROXIES = (
+    "unknown_device no_key no_tls no_certificate other_certificate bad_proxy_header at_once "
+    "per_address served memory"
+)
+ANSWERED = "login PASS,login FAIL,login ERROR,command PASS_ADD,command FAIL,account SUCCESS,account ERROR"
+PACKETS = "bad_body bad_header unserved_type unanswered"
+# What is counted of a device that is permitted something and then closed, by served.py.
+PERMITS = "accepted +1, command PASS_ADD +1, ended protocol +1"
+
+
+def cases(name):
+    """Each case of this file, with the name of the function that plays it."""
+    for play in (
+        all_lines_in_their_order,
+        requests,
+        packets_that_are_refused,
+        devices_that_are_given_up,
+        replies_that_are_not_taken,
+        connections_that_are_reset,
+        what_the_system_refuses,
+        packets_without_room,
+        logins_without_room,
+        connections_that_are_refused,
+        connections_that_are_too_many,
+        as_many_as_were_to_be_served,
+        edits_and_devices,
+        devices_that_come_back,
+        taken_out_in_its_first_packet,
+        edits_that_were_kept,
+        for_how_long_it_serves,
+        lines_of_refused_connections,
+        times_of_lines,
+        a_log_that_takes_no_lines,
+        a_log_that_is_renamed,
+        a_line_of_any_length,
+        lines_that_may_be_lost,
+        lines_that_are_on_the_disk,
+        a_fault_after_an_append,
+        a_start_that_fails,
+        who_may_read_secrets,
+    ):
+        expected = Outcome(b"", b"", 0)
+        yield Case(f"{name}: {play.__name__}", [Check(Play(play), expected, "it was counted")])
+
+
+def named(name):
+    """The whole name of a line: `ended idle`, `refused at_once`, `packet bad_body`, `login PASS`."""
+    what, _, rest = name.partition(" ")
+    if not rest:
+        totals = {"accepted": "connections_accepted_total", "other_key": "connections_other_key_total"}
+        return "tacd_" + totals.get(what, f"{what}_total" if what in ("edits", "reloads") else what)
+    if what in ("ended", "refused"):
+        return f'tacd_connections_{what}_total{{why="{rest}"}}'
+    if what == "packet":
+        return f'tacd_requests_refused_total{{why="{rest}"}}'
+    return f'tacd_requests_total{{type="{what}",status="{rest}"}}'
+
+
+class Told:
+    """What `status` tells an operator, and what it has to tell."""
+
+    def __init__(self, operator):
+        self.operator = operator
+        self.wanted = self.came()
+
+    def came(self):
+        numbers = self.operator.numbers()
+        return {name: int(it) for name, it in numbers.items() if name not in APART}
+
+    def after(self, what, changes=""):
+        """These numbers, each with what comes to it, and no others have changed by an event."""
+        for change in filter(None, changes.split(", ")):
+            name, _, more = change.rpartition(" ")
+            self.wanted[named(name)] += int(more)
+        until = time.monotonic() + LONGEST_WAIT
+        while (came := self.came()) != self.wanted:
+            if time.monotonic() > until:
+                off = {name: (it, came.get(name)) for name, it in self.wanted.items() if it != came.get(name)}
+                raise Wrong(f"after {what} these are wanted, and come: {off}")
+            time.sleep(0.01)
+
+
+@contextlib.contextmanager
+def counting(program, *options, judged=None, workers="1", **more):
+    """A server of these workers, its operator, and what he is told."""
+    judged = judged or Judged(clock=Clock())
+    more = {"policy": POLICY, **more}
+    words = ["--console", "console", "--workers", workers, *options]
+    words += () if "--per-address" in options else ("--per-address", "0")
+    with Server(program, *words, before=judged.begin, **more) as server, judged:
+        starts(server)
+        with Operator(server) as operator:
+            yield server, operator, Told(operator)
+
+
+def exchanged(device, sent, key=KEY):
+    """Whether a packet of a connection that is kept is answered, by whatever."""
+    head = answer(device, packet(sent, key), 12)
+    if len(head) < 12:
+        return False
+    length = int.from_bytes(head[8:], "big")
+    return len(answer(device, b"", length)) == length
+
+
+def all_lines_in_their_order(program):
+    """Whatever has happened, and each with what is counted there: nothing, but for what the options say."""
+    before = (
+        "info workers connections connections_limit accepted",
+        *(f"ended {why}" for why in ENDED.split()),
+    )
+    after = (
+        "records records_limit subjects rules edits reloads log log_takes_lines operators keeps_edits "
+        "edits_kept serves_edits"
+    )
+    for options, refused, values in (
+        ((), REFUSED, {"connections_limit": 10_000, "records_limit": 1_000_000}),
+        (
+            ("--keep-records", "1234", "--log", "log", "--connections-at-once", "77"),
+            REFUSED,
+            {"connections_limit": 77, "records_limit": 1234, "log": 1, "log_takes_lines": 1},
+        ),
+        (
+            ("--keep-edits", "kept", "--proxy", "proxy"),
+            REFUSED_BY_PROXIES,
+            {"connections_limit": 10_000, "records_limit": 1_000_000, "keeps_edits": 1, "edits_kept": 1},
+        ),
+    ):
+        listed = {"key": ("--devices", "devices"), "devices": LISTED} if "--proxy" in options else {}
+        names = [*before[0].split(), *before[1:], *(f"refused {why}" for why in refused.split())]
+        names += ["devices", *ANSWERED.split(","), *(f"packet {why}" for why in PACKETS.split())]
+        names += ["other_key", *after.split()]
+        values |= {"info": 1, "workers": 1, "subjects": 2, "rules": 1, "operators": 1}
+        values["devices"] = 4 if listed else 0
+        with counting(program, *options, **listed) as (_, _, status):
+            came = [(re.sub("{version=.*}", "", name), it) for name, it in status.wanted.items()]
+            wanted = [(named(name), values.get(name, 0)) for name in names]
+            require(came == wanted, f"with {options} it tells {came}, not {wanted}")
+
+
+# What a device sends on one connection, and what is counted by each.
+REQUESTS = (
+    ("c1010104.00000001.00000014.0101020103000009'bobblue-lake'", "login PASS +1"),
+    ("c1010104.00000002.00000013.0101020103000008'bobred-lake'", "login FAIL +1"),
+    # There is no such kind of login.
+    ("c1010104.00000003.0000000c.0101070103000001'bobx'", "login ERROR +1"),
+    # A question counts nothing, and the last reply of a login does.
+    ("c0010104.00000004.0000000c.0101010100040000'tty0'", ""),
+    ("c0010304.00000004.00000008.0003000000'bob'", ""),
+    ("c0010504.00000004.0000000e.0009000000'blue-lake'", "login PASS +1"),
+    (
+        ASK.replace("{flag}", KEPT).replace(".00000001.", ".00000005."),
+        "command PASS_ADD +1",
+    ),
+    (
+        "c0020104.00000006.00000028.06010101030400020d0a'bobtty0service=shellcmd=reload'",
+        "command FAIL +1",
+    ),
+    (RECORD, "account SUCCESS +1, records +1"),
+    ("c0030104.00000008.0000001a.00060101010304000109'bobtty0task_id=7'", "account ERROR +1"),
+)
+
+
+def requests(program):
+    """Each by its type and its status, with a log and without."""
+    for options in ((), ("--log", "log")):
+        with counting(program, *options) as (server, operator, status):
+            with connect(server) as device:
+                status.after("a call", "accepted +1, connections +1")
+                for sent, changes in REQUESTS:
+                    require(exchanged(device, sent), f"{sent} isn't answered")
+                    status.after(sent, changes)
+            status.after("a device that goes", "connections -1, ended finished +1")
+            require(is_permitted(server), "bob isn't permitted")
+            status.after("one session", PERMITS)
+            stops(server, operator)
+
+
+
+
+# What is refused on a connection of its own, under which key, and what is counted.
+OUT_OF_TURN = "c0010304.0000000a.00000005.0000000001"
+REFUSALS = (
+    (REQUESTS[0][0], OTHER_KEY, "packet bad_body +1, other_key +1"),
+    (REQUESTS[6][0], OTHER_KEY, "packet bad_body +1, other_key +1"),
+    (RECORD, OTHER_KEY, "packet bad_body +1, other_key +1"),
+    ("d0010100.fedcba98.00000000", KEY, "packet bad_header +1"),
+    ("c0070100.0000000b.00000004.'body'", KEY, "packet unserved_type +1"),
+    (OUT_OF_TURN, KEY, "packet unanswered +1"),
+)
+
+
+def packets_that_are_refused(program):
+    """Each closes its connection by the protocol, but for a login that its device gives up. A first
+    packet alone may be one under another key."""
+    misfit = "tacd: 127.0.0.1: its packets don't fit the key\n"
+    for options in ((), ("--log", "log")):
+        with counting(program, *options) as (server, operator, status):
+            for sent, key, changes in REFUSALS:
+                with connect(server) as device:
+                    exchanged(device, sent, key)
+                    device.shutdown(socket.SHUT_WR)
+                    require(is_closed(device, LONGEST_WAIT), f"{sent} is taken")
+                status.after(sent, f"{changes}, accepted +1, ended protocol +1")
+            with connect(server) as device:
+                for sent in ("c0010104.00000001.0000000b.0101010103000000'bob'", REQUESTS[6][0]):
+                    require(exchanged(device, sent), f"{sent} isn't answered")
+                status.after("a login's begin", "accepted +1, connections +1, command PASS_ADD +1")
+                device.sendall(packet("c0010304.00000001.00000005.0000000001"))
+                status.after("a login that is given up", "packet unanswered +1")
+                exchanged(device, RECORD, OTHER_KEY)
+                status.after("another key", "packet bad_body +1, connections -1, ended protocol +1")
+            stops(server, operator, misfit)
+
+
+@contextlib.contextmanager
+def open_device(server, status, *sent, source=None, key=KEY, changes=""):
+    """A device that is answered these packets, once all that is counted."""
+    with connect(server, source) as device:
+        status.after("a call", "accepted +1, connections +1")
+        for it in sent:
+            require(exchanged(device, it, key), f"{it} isn't answered")
+        status.after(f"{sent}", changes)
+        yield device
+
+
+def devices_that_are_given_up(program):
+    """One that has said nothing for ten seconds; one at a prompt for a name or for a password, after
+    the time that people have; and one that was answered, after the time of devices."""
+    clock = Clock()
+    options = ("--idle", "300", "--login-idle", "60")
+    with counting(program, *options, judged=Judged(clock=clock)) as (server, operator, status):
+        with open_device(server, status):
+            clock.passes(9)
+            with open_device(server, status, REQUESTS[6][0], changes="command PASS_ADD +1"):
+                clock.passes(1)
+                status.after("ten seconds", "connections -1, ended idle +1")
+                with open_device(server, status, REQUESTS[3][0]):
+                    with open_device(server, status, *(it for it, _ in REQUESTS[3:5])):
+                        clock.passes(60)
+                        status.after("a minute", "connections -2, ended login_idle +2")
+                clock.passes(238)
+                require(is_permitted(server), "bob isn't permitted")
+                status.after("a second less than five minutes", PERMITS)
+                clock.passes(1)
+                status.after("five minutes", "connections -1, ended idle +1")
+        stops(server, operator)
+
+
+def replies_that_are_not_taken(program):
+    """A device that asks on and on, and reads nothing. Another one has its turns meanwhile."""
+    clock = Clock()
+    more = {"judged": Judged(clock=clock), "policy": given("shell") + "permit show .*\nuser bob in ops\n"}
+    asks = [packet(asked(["service=shell", "cmd="], KEPT, session)) for session in range(1, 401)]
+    with counting(program, "--idle", "60", **more) as (server, operator, status):
+        with open_device(server, status) as device:
+            device.sendall(b"".join(asks))
+            with connect(server) as other:
+                for _ in range(50):
+                    require(is_answered(other, ASK, PERMITTED, flag=KEPT), "another has to wait")
+            many = int(operator.numbers()[named("command PASS_ADD")])
+            require(50 < many < 450, f"{many} are permitted")
+            status.after("another", f"accepted +1, ended finished +1, command PASS_ADD +{many}")
+            clock.passes(60)
+            status.after("a minute", "connections -1, ended not_taken +1")
+        stops(server, operator)
+
+
+def resets(device):
+    """The device closes its connection by a reset."""
+    device.setsockopt(socket.SOL_SOCKET, socket.SO_LINGER, struct.pack("ii", 1, 0))
+    device.close()
+
+
+@contextlib.contextmanager
+def halted(server):
+    """Nothing of the server goes on meanwhile."""
+    process = server.process.pid
+    server.process.send_signal(signal.SIGSTOP)
+    until = time.monotonic() + LONGEST_WAIT
+    while any(
+        path.read_text().rpartition(")")[2].split()[0] != "T"
+        for path in pathlib.Path(f"/proc/{process}/task").glob("*/stat")
+    ):
+        require(time.monotonic() < until, "the server isn't halted")
+        time.sleep(0.005)
+    yield
+    server.process.send_signal(signal.SIGCONT)
+
+
+def connections_that_are_reset(program):
+    """By a device that has said nothing, and by one whose reply can't be written any more."""
+    with counting(program) as (server, operator, status):
+        with open_device(server, status) as device:
+            resets(device)
+            status.after("a reset", "connections -1, ended read +1")
+        with open_device(server, status) as device:
+            with halted(server):
+                device.sendall(packet(ASK, flag=KEPT))
+                resets(device)
+            status.after("a question", "connections -1, command PASS_ADD +1, ended write +1")
+        stops(server, operator)
+
+
+def what_the_system_refuses(program):
+    """It can't watch a socket, or has no memory for a long packet."""
+    errors = {}
+    judged = Judged(lambda call: errors.get(call.number), EPOLL_CTL, clock=Clock())
+    with counting(program, judged=judged) as (server, operator, status):
+        errors[EPOLL_CTL] = -errno.ENOSPC
+        with connect(server) as device:
+            require(is_closed(device, LONGEST_WAIT), "one is kept that can't be watched")
+        errors.clear()
+        status.after("a socket that can't be watched", "accepted +1, ended server +1")
+        with open_device(server, status) as device:
+            limit, process = resource.RLIMIT_DATA, server.process.pid
+            before = resource.prlimit(process, limit)
+            resource.prlimit(process, limit, (resource.getpagesize(), before[1]))
+            with contextlib.suppress(ConnectionError):
+                device.sendall(MOST_OF_IT)
+            require(is_closed(device, LONGEST_WAIT), "one is kept whose packet finds no memory")
+            resource.prlimit(process, limit, before)
+            status.after("no memory", "connections -1, ended memory +1")
+        stops(server, operator)
+
+
+# A packet of 131,087 bytes but for its last ones.
+MOST_OF_IT = bytes.fromhex("c0020104000000010001fff0") + bytes(130_988)
+
+
+def unread(server):
+    """How many bytes are on their way to the server, or wait there."""
+    port, count = f":{server.address[1]:04X}", 0
+    for text in pathlib.Path("/proc/net/tcp").read_text().splitlines()[1:]:
+        _, here, there, _, queues, *_ = text.split()
+        if here.endswith(port) or there.endswith(port):
+            count += sum(int(it, 16) for it in queues.split(":"))
+    return count
+
+
+def packets_without_room(program):
+    """A megabyte is 1,048,576 bytes, and 4,096 of each connection aren't counted. So there is room for
+    eight packets of 131,000 bytes, which a million bytes wouldn't have, and not for a ninth."""
+    with counting(program, "--packet-memory", "1") as (server, operator, status):
+        with contextlib.ExitStack() as stack:
+            for _ in range(8):
+                stack.enter_context(open_device(server, status)).sendall(MOST_OF_IT)
+                until = time.monotonic() + LONGEST_WAIT
+                while unread(server):
+                    require(time.monotonic() < until, "the server doesn't read")
+                    time.sleep(0.005)
+            status.after("eight packets")
+            with connect(server) as device:
+                with contextlib.suppress(ConnectionError):
+                    device.sendall(MOST_OF_IT)
+                require(is_closed(device, LONGEST_WAIT), "a ninth finds room")
+            status.after("a ninth", "accepted +1, ended packet_memory +1")
+        status.after("their end", "connections -8, ended finished +8")
+        stops(server, operator)
+
+
+# Of each comparison with this one it takes long until it fails.
+SLOW = "policy 3\n" + POLICY + "user ann\nlogin-hash $6$rounds=999999$salt$" + "w" * 86 + "\n"
+CROWDED = (
+    "tacd: 256 passwords wait to be compared with hashes; the connections of further logins are closed\n"
+)
+READABLE = "tacd: policy: it has secrets, and any user of this machine can read it\n"
+
+
+def logins_without_room(program):
+    """Those that are closed are counted, each of them, and standard error is told once."""
+    with counting(program, policy=SLOW) as (server, operator, status):
+        with contextlib.ExitStack() as stack:
+            devices = [stack.enter_context(connect(server)) for _ in range(300)]
+            for device in devices:
+                device.sendall(packet(LOGINS["secret"]))
+                device.setblocking(False)
+            until = time.monotonic() + LONGEST_WAIT
+            while not are_counted(status, devices):
+                require(time.monotonic() < until, f"it tells {status.came()}")
+                time.sleep(0.01)
+            pathlib.Path(server.folder.name, "policy").chmod(0o644)
+            told(operator, ("reload", "ok"))
+            said = [server.process.stderr.readline().decode() for _ in range(2)]
+            require(said == [CROWDED, READABLE], f"it says {said}")
+
+
+def are_counted(status, devices):
+    """Whether all have called, and those that are closed by now, some of them, are counted as such."""
+    came, closed = status.came(), sum(map(is_over, devices))
+    wanted = dict(status.wanted)
+    wanted[named("accepted")] = len(devices)
+    wanted["tacd_connections"] = len(devices) - closed
+    wanted[named("ended hashing")] = closed
+    wanted[named("login FAIL")] = came[named("login FAIL")]
+    return closed > 1 and came == wanted
+
+
+def is_over(device):
+    """Whether a connection that doesn't wait has come to its end. Nothing is read of it."""
+    try:
+        return device.recv(1, socket.MSG_PEEK) == b""
+    except BlockingIOError:
+        return False
+    except ConnectionError:
+        return True
+
+
+def is_refused(server, status, why, source=None, head=None):
+    """A connection from there, or of a proxy that says so, is closed without a byte and counted so."""
+    with called(server, head) if head else connect(server, source) as device:
+        require(is_closed(device, LONGEST_WAIT), f"{why}: it is served")
+    status.after(f"{why} of {source or head}", f"refused {why} +1")
+
+
+def connections_that_are_refused(program):
+    """Each for its reason, at the port and by a proxy."""
+    listed = {"key": ("--devices", "devices"), "devices": LISTED, "proxy": "proxy"}
+    with counting(program, "--log", "log", **listed) as (server, operator, status):
+        require(server.process.stdout.readline() == b"listening proxy\n", "it doesn't listen to proxies")
+        for why, source, head in (
+            ("unknown_device", "127.0.0.9", None),
+            ("unknown_device", None, line("192.0.2.9")),
+            ("no_key", "127.0.0.5", None),
+            ("no_tls", None, line("127.0.0.1")),
+            ("no_certificate", None, header("192.0.2.3", b"core-1.example", verify=1)),
+            ("other_certificate", None, header("192.0.2.3", b"core-2.example")),
+            ("bad_proxy_header", None, b"GET / HTTP/1.1\r\n\r\n"),
+        ):
+            is_refused(server, status, why, source, head)
+        # Each address of the first device may have two.
+        with open_device(server, status, source="127.0.0.1") as device:
+            with open_device(server, status, source="127.0.0.1"):
+                is_refused(server, status, "per_address", "127.0.0.1")
+            status.after("its end", "connections -1, ended finished +1")
+            with open_device(server, status, source="127.0.0.1"):
+                resets(device)
+                status.after("a reset", "connections -1, ended read +1")
+        status.after("its end", "connections -1, ended finished +1")
+        said = "tacd: 127.0.0.9: unknown device, its connection is closed\n"
+        stops(server, operator, said)
+
+
+def connections_that_are_too_many(program):
+    """Of one address under the one key, of all, and of proxies whose headers aren't there yet."""
+    at_once = ("--connections-at-once", "3")
+    with counting(program, *at_once, "--per-address", "2") as (server, operator, status):
+        with open_device(server, status), open_device(server, status):
+            is_refused(server, status, "per_address")
+            with open_device(server, status, source="127.0.0.2"):
+                is_refused(server, status, "at_once", "127.0.0.2")
+                is_refused(server, status, "at_once", "127.0.0.3")
+        status.after("their end", "connections -3, ended finished +3")
+        stops(server, operator)
+    listed = {"key": ("--devices", "devices"), "devices": LISTED, "proxy": "proxy"}
+    with counting(program, *at_once, **listed) as (server, operator, status):
+        with contextlib.ExitStack() as stack:
+            for _ in range(3):
+                stack.enter_context(called(server, b"PROXY TCP4 "))
+            is_refused(server, status, "at_once", head=line("192.0.2.2"))
+            with open_device(server, status, source="127.0.0.1"):
+                pass
+            status.after("a device at the port", "connections -1, ended finished +1")
+
+
+def as_many_as_were_to_be_served(program):
+    """All who wait when the last is taken are closed."""
+    with counting(program, "--connections", "1") as (server, operator, status):
+        with contextlib.ExitStack() as stack:
+            with halted(server):
+                devices = [stack.enter_context(connect(server)) for _ in range(3)]
+            for device in devices[1:]:
+                require(is_closed(device, LONGEST_WAIT), "one more is served")
+            status.after("three calls", "accepted +1, connections +1, refused served +2")
+            require(exchanged(devices[0], RECORD), "the first isn't answered")
+            status.after("a record", "account SUCCESS +1, records +1")
+        status.after("its end", "connections -1, ended finished +1")
+        stops(server, operator)
+
+
+def edits_and_devices(program):
+    """What an operator does, where edits are kept and where they aren't, and who comes and goes."""
+    listed = {"key": ("--devices", "devices"), "devices": LISTED}
+    for options, kept in (((), 0), (("--keep-edits", "kept"), 1)):
+        with counting(program, *options, **listed) as (server, operator, status):
+            for typed, changes in (
+                ("add user ann in ops", f"edits +1, subjects +1, serves_edits +{kept}"),
+                ("insert user ann 1 permit x", "edits +1, rules +1"),
+                ("drop group ops 9", ""),
+                ("begin", ""),
+                ("add user eve", ""),
+                ("remove user ann", ""),
+                ("commit", "edits +2, rules -1"),
+                ("reload", f"reloads +1, subjects -1, serves_edits -{kept}"),
+            ):
+                operator.ask(typed)
+                status.after(typed, changes)
+            with Operator(server):
+                status.after("another operator", "operators +1")
+            status.after("his end", "operators -1")
+            replace(server, "devices", "device one; at 127.0.0.1; key fjord-and-fell-2026-11")
+            told(operator, ("reload devices", "devices ok: 1 devices, 1 prefixes"))
+            status.after("other devices", "devices -3")
+            stops(server, operator)
+
+
+def devices_that_come_back(program):
+    """Devices that an operator takes out, and puts back as they were."""
+    first = f"device one; at 127.0.0.1; key {NEW_KEY.decode()}"
+    other = f"device one; at 127.0.0.9; key {OLD_KEY.decode()}"
+    listed = {"key": ("--devices", "devices"), "devices": LISTED}
+    with counting(program, **listed) as (server, operator, status):
+        status.after("the start")
+        for devices, is_there in ((first, True), (other, False), (first, True), (first, True)):
+            replace(server, "devices", devices)
+            told(operator, ("reload devices", "devices ok: 1 devices, 1 prefixes"))
+            with connect(server, "127.0.0.1") as device:
+                came = is_answered(device, ASK, PERMITTED, key=NEW_KEY, flag=CLOSING)
+                require(came == is_there, f"with {devices} answered is {came}")
+
+
+def taken_out_in_its_first_packet(program):
+    """A device with two keys, whose packet isn't whole when it is taken out."""
+    listed = {"key": ("--devices", "devices"), "devices": LISTED}
+    with counting(program, **listed) as (server, operator, status):
+        with open_device(server, status, source="127.0.0.2") as device:
+            sent = packet(ASK, OLD_KEY, flag=KEPT)
+            device.sendall(sent[:20])
+            replace(server, "devices", f"device one; at 127.0.0.1; key {NEW_KEY.decode()}")
+            told(operator, ("reload devices", "devices ok: 1 devices, 1 prefixes"))
+            with contextlib.suppress(ConnectionError):
+                device.sendall(sent[20:])
+            status.after("the rest of a packet", "devices -3, connections -1, ended unlisted +1")
+        stops(server, operator)
+
+
+def edits_that_were_kept(program):
+    """A server that begins with them says so, until FILE is read again. Standard error names both."""
+    with tempfile.TemporaryDirectory(prefix="tacd-kept-") as folder:
+        kept = f"{folder}/kept"
+        options = ("--keep-edits", kept)
+        with counting(program, *options) as (server, operator, status):
+            told(operator, ("add user ann", "ok"))
+            status.after("an edit", "edits +1, subjects +1, serves_edits +1")
+            stops(server, operator)
+        with counting(program, *options) as (server, operator, status):
+            names = ("tacd_keeps_edits", "tacd_edits_kept", "tacd_serves_edits", "tacd_subjects")
+            came = [status.wanted[name] for name in names]
+            require(came == [1, 1, 1, 3], f"of {names} it tells {came}")
+            told(operator, ("reload", "ok"))
+            status.after("a reload", "reloads +1, subjects -1, serves_edits -1")
+            said = (
+                f"tacd: {kept}: served in place of policy, since it has edits of the console; "
+                "'reload' takes that again\n"
+            )
+            stops(server, operator, said)
+
+
+def for_how_long_it_serves(program):
+    """In whole seconds."""
+    clock = Clock()
+    with counting(program, judged=Judged(clock=clock)) as (server, operator, _):
+        for passed, wanted in ((0, 0), (0.999, 0), (0.001, 1), (58.999, 59), (0.001, 60), (90_000, 90_060)):
+            clock.passes(passed)
+            came = operator.numbers()["tacd_uptime_seconds"]
+            require(came == str(wanted), f"it tells {came} seconds, not {wanted}")
+        stops(server, operator)
+
+
+def logged(server):
+    """The lines of the log that devices made."""
+    events = map(json.loads, pathlib.Path(server.folder.name, "log").read_text("utf-8").splitlines())
+    return [event for event in events if "device" in event]
+
+
+# After how many seconds who calls, and what the log says of it.
+CALLS = (
+    (0, "no_key", "127.0.0.5", None, ("00.000", "no key", 1)),
+    (0, "no_tls", None, line("127.0.0.1"), ("00.000", "no tls", 1)),
+    (0, "unknown_device", "127.0.0.9", None, ("00.000", "unknown device", 1)),
+    (0, "unknown_device", "127.0.0.9", None, None),
+    (0, "bad_proxy_header", None, b"GET ", ("00.000", "bad proxy header", 1)),
+    (0, "no_certificate", None, header("192.0.2.3", verify=1), ("00.000", "no certificate", 1)),
+    (0, "other_certificate", None, header("192.0.2.3"), ("00.000", "other certificate", 1)),
+    (0.5, "unknown_device", "127.0.0.9", None, None),
+    (0.499, "unknown_device", "127.0.0.8", None, None),
+    (0.001, "unknown_device", "127.0.0.9", None, ("01.000", "unknown device", 4)),
+    (0, "no_tls", None, line("127.0.0.1"), ("01.000", "no tls", 1)),
+    (0.998, "unknown_device", "127.0.0.9", None, None),
+    (0.002, "no_key", "127.0.0.5", None, ("02.000", "no key", 1)),
+    (57.999, "unknown_device", "127.0.0.8", None, ("59.999", "unknown device", 2)),
+)
+
+
+def lines_of_refused_connections(program):
+    """Of each reason one a second at most, which counts those since the line before. Standard error
+    names one a minute."""
+    clock = Clock()
+    listed = {"key": ("--devices", "devices"), "devices": LISTED, "proxy": "proxy"}
+    more = {"judged": Judged(clock=clock), **listed}
+    with counting(program, "--log", "log", **more) as (server, operator, status):
+        require(server.process.stdout.readline() == b"listening proxy\n", "it doesn't listen to proxies")
+        wanted = []
+        for passed, why, source, head, told_of in CALLS:
+            clock.passes(passed)
+            is_refused(server, status, why, source, head)
+            wanted += [told_of] if told_of else []
+            came = [(event["time"][17:23], event["why"], event["count"]) for event in logged(server)]
+            require(came == wanted, f"the log has {came}, not {wanted}")
+        clock.passes(0.001)
+        is_refused(server, status, "unknown_device", "127.0.0.7")
+        said = (
+            "tacd: 127.0.0.5: the device has no key, its connection is closed\n"
+            "tacd: 127.0.0.7: unknown device, its connection is closed\n"
+        )
+        stops(server, operator, said)
+
+
+# How the clock goes on, in milliseconds, and what time the next line has.
+TIMES = (
+    (0, "29T12:00:00.000"),
+    (1, "29T12:00:00.001"),
+    (0, "29T12:00:00.001"),
+    (500, "29T12:00:00.501"),
+    (499, "29T12:00:01.000"),
+    (86_400_009, "30T12:00:01.009"),
+    (-250, "30T12:00:00.759"),
+    (-86_400_000, "29T12:00:00.759"),
+)
+
+
+def times_of_lines(program):
+    """Each has the millisecond of its own, also where the clock goes back."""
+    clock = Clock()
+    with counting(program, "--log", "log", judged=Judged(clock=clock)) as (server, operator, _):
+        with connect(server) as device:
+            for passed, _ in TIMES:
+                clock.since_1970 += passed * 1_000_000
+                require(is_answered(device, ASK, PERMITTED, flag=KEPT), "bob isn't permitted")
+        came = [event["time"] for event in logged(server)]
+        wanted = [f"2026-11-{time}Z" for _, time in TIMES]
+        require(came == wanted, f"the log has {came}")
+        stops(server, operator)
+
+
+FAILS = "tacd: log: {}; requests aren't answered until it takes lines\n"
+TAKES = "tacd: log: it takes lines again\n"
+FULL, BROKEN = "No space left on device (os error 28)", "Input/output error (os error 5)"
+
+
+def is_of_log(call):
+    return call.file().rpartition("/")[2].startswith("log")
+
+
+def a_log_that_takes_no_lines(program):
+    """Whether it takes them is told of each fault, and until it is over. What isn't answered isn't
+    counted as answered. Standard error says each once."""
+    errors = []
+    judge = lambda call: errors[0] if errors and is_of_log(call) else None
+    for number, error, options, why in (
+        (WRITE, errno.ENOSPC, (), FULL),
+        (FDATASYNC, errno.EIO, ("--sync",), BROKEN),
+    ):
+        judged = Judged(judge, number, clock=Clock())
+        with counting(program, "--log", "log", *options, judged=judged) as (server, operator, status):
+            for _ in range(2):
+                errors.append(-error)
+                for change in (", log_takes_lines -1", ""):
+                    require(not is_permitted(server), "a request is answered whose line isn't there")
+                    status.after("a fault", f"accepted +1, ended log +1{change}")
+                told(operator, ("shadow", "none"))
+                status.after("a line of the console")
+                errors.clear()
+                for change in (", log_takes_lines +1", ""):
+                    require(is_permitted(server), "bob isn't permitted any more")
+                    status.after("its end", f"{PERMITS}{change}")
+            stops(server, operator, (FAILS.format(why) + TAKES) * 2)
+
+
+def a_log_that_is_renamed(program):
+    """Within a second lines go to a new file."""
+    clock = Clock()
+    with counting(program, "--log", "log", judged=Judged(clock=clock)) as (server, operator, _):
+        log = pathlib.Path(server.folder.name, "log")
+        for count in range(3):
+            require(is_permitted(server), "bob isn't permitted")
+            require(len(logged(server)) == 1, f"after {count} names the log has {logged(server)}")
+            log.rename(log.with_name(f"log.{count}"))
+            clock.passes(1)
+        told(operator, ("shadow", "none"))
+        require(logged(server) == [] and len(log.read_text().splitlines()) == 1, "it has other lines")
+        stops(server, operator)
+
+
+def a_line_of_any_length(program):
+    """The longest record is stored, and its line has all of it."""
+    arguments = ["task_id=7", *("x=" + chr(1) * 253 for _ in range(250))]
+    fixed = bytes([2, 6, 1, 1, 1, 3, 0, 0, len(arguments), *map(len, arguments)])
+    body = fixed + ("bob" + "".join(arguments)).encode()
+    with counting(program, "--log", "log") as (server, operator, status):
+        with open_device(server, status) as device:
+            sent = f"c0030104.00000001.{len(body):08x}.{body.hex()}"
+            require(is_answered(device, sent, STORED), "a long record isn't stored")
+            status.after("a long record", "account SUCCESS +1, records +1")
+        (event,) = logged(server)
+        require(event["arguments"] == arguments, "its line has other arguments")
+        stops(server, operator)
+
+
+class Disk:
+    """A log that is written and put on the disk by several at once, by what they do in turn."""
+
+    def __init__(self):
+        self.done, self.held, self.errors = [], [], {}
+        self.judged = Judged(self.judge, WRITE, FDATASYNC, clock=Clock())
+
+    def judge(self, call):
+        """A call that is to be held waits until it is let go. Each is noted as it is made."""
+        if not is_of_log(call):
+            return None
+        error = self.errors.pop(call.number, None)
+        self.done.append((call.number, call.inode()))
+        if error == "held":
+            goes_on = threading.Event()
+            self.held.append(goes_on)
+            require(goes_on.wait(LONGEST_WAIT), "nobody lets it go on")
+            return None
+        return error
+
+    def comes_to(self, what, holds):
+        until = time.monotonic() + LONGEST_WAIT
+        while not holds():
+            require(time.monotonic() < until, f"it never comes to {what}")
+            time.sleep(0.002)
+
+    def holds(self, device):
+        """What this device asks is written, and kept on its way to the disk."""
+        count = len(self.held)
+        self.errors[FDATASYNC] = "held"
+        device.sendall(packet(ASK, flag=KEPT))
+        self.comes_to("the disk", lambda: len(self.held) > count)
+
+    def rename(self, server):
+        """The log has another name, and it is seen by the next line."""
+        log = pathlib.Path(server.folder.name, "log")
+        inode = log.stat().st_ino
+        log.rename(log.with_name("log.0"))
+        self.judged.clock.passes(1)
+        return inode
+
+
+@contextlib.contextmanager
+def devices_beside(program, disk, count):
+    """So many devices that were answered, each by a worker of its own."""
+    options = ("--log", "log", "--sync")
+    with counting(program, *options, judged=disk.judged, workers=str(count)) as (server, operator, status):
+        with contextlib.ExitStack() as stack:
+            devices = []
+            for _ in range(count):
+                devices.append(stack.enter_context(open_device(server, status)))
+                require(is_answered(devices[-1], ASK, PERMITTED, flag=KEPT), "bob isn't permitted")
+                status.after("a question", "command PASS_ADD +1")
+            yield server, operator, status, devices
+
+
+def lines_that_may_be_lost(program):
+    """The system tells of a fault of the disk once, and that may be of any line that was written by
+    then. Here it tells it of a renamed log, while another line waits for that. So neither counts."""
+    disk = Disk()
+    with devices_beside(program, disk, 2) as (server, operator, status, (first, second)):
+        disk.holds(first)
+        disk.rename(server)
+        disk.errors[FDATASYNC] = -errno.EIO
+        require(not exchanged(second, REQUESTS[6][0]), "the second is answered")
+        status.after("a fault", "log_takes_lines -1, connections -1, ended log +1")
+        disk.held[0].set()
+        require(is_closed(first, LONGEST_WAIT), "the first is answered")
+        status.after("the first", "connections -1, ended log +1")
+        require(is_permitted(server), "bob isn't permitted any more")
+        status.after("its end", f"{PERMITS}, log_takes_lines +1")
+        stops(server, operator, FAILS.format(BROKEN) + TAKES)
+
+
+def lines_that_are_on_the_disk(program):
+    """A line that was written to a log before that was renamed counts once that one is on the disk."""
+    disk = Disk()
+    with devices_beside(program, disk, 3) as (server, operator, status, (first, second, third)):
+        disk.holds(first)
+        count = len(disk.done)
+        second.sendall(packet(ASK, flag=KEPT))
+        disk.comes_to("another line", lambda: len(disk.done) > count)
+        old = disk.rename(server)
+        count = len(disk.done)
+        third.sendall(packet(ASK, flag=KEPT))
+        disk.comes_to("the new file", lambda: any(inode != old for _, inode in disk.done[count:]))
+        disk.held[0].set()
+        for device in (second, first, third):
+            wanted = packet(PERMITTED, flag=KEPT)
+            came = answer(device, b"", len(wanted))
+            require(came == wanted, f"a device is answered by {came}")
+            synced = (FDATASYNC, old) in disk.done[count:]
+            require(synced, "a device is answered whose line isn't on the disk")
+        status.after("three questions", "command PASS_ADD +3")
+        stops(server, operator)
+
+
+def a_fault_after_an_append(program):
+    """A line that was written before a log took none, and is put on the disk after that, doesn't say
+    that the log takes lines again."""
+    disk = Disk()
+    with devices_beside(program, disk, 2) as (server, operator, status, (first, second)):
+        disk.holds(first)
+        disk.errors[WRITE] = -errno.ENOSPC
+        require(not exchanged(second, REQUESTS[6][0]), "the second is answered")
+        status.after("a fault", "log_takes_lines -1, connections -1, ended log +1")
+        disk.held[0].set()
+        wanted = packet(PERMITTED, flag=KEPT)
+        require(answer(first, b"", len(wanted)) == wanted, "the first isn't answered")
+        status.after("the first", "command PASS_ADD +1")
+        require(is_permitted(server), "bob isn't permitted any more")
+        status.after("its end", f"{PERMITS}, log_takes_lines +1")
+        stops(server, operator, FAILS.format(FULL) + TAKES)
+
+
+def a_start_that_fails(program):
+    """It says why, prints nothing and ends: without threads, after a wait that is short here; without
+    descriptors; and without memory. The log is opened first, and then the port."""
+    made = []
+
+    def judge(call):
+        """All threads but the first one, which tells standard error. A short sleep is over at once."""
+        if call.number == CLOCK_NANOSLEEP:
+            return 0 if call.seconds() < 0.005 else None
+        made.append(call)
+        return -errno.EAGAIN if len(made) > 1 else None
+
+    no_thread = "tacd: a thread could not be made\n"
+    few = "tacd: there are too few file descriptors for the workers\n"
+    for judged, said in (
+        (Judged(judge, CLONE3, CLOCK_NANOSLEEP), no_thread),
+        (Judged(lambda _: -errno.EAGAIN, CLONE3), no_thread),
+        (Judged(lambda _: -errno.EMFILE, EPOLL_CREATE1), few),
+        (Judged(lambda _: -errno.ENOMEM, EPOLL_CREATE1), "tacd: memory ran out\n"),
+    ):
+        with Server(program, "--console", "console", before=judged.begin) as server, judged:
+            server.ends(complained=said, status=3, is_listening=False)
+    with socket.create_server(("0.0.0.0", 0)) as other:
+        with Server(program, "--log", "none/log", port=other.getsockname()[1]) as server:
+            said = "tacd: none/log: No such file or directory (os error 2)\n"
+            server.ends(complained=said, status=4, is_listening=False)
+
+
+def who_may_read_secrets(program):
+    """Standard error says so of each file that any user of the machine can read, at a start and when it
+    is read again. Its group may."""
+    readable = "tacd: {}: it has secrets, and any user of this machine can read it\n"
+    listed = ("--devices", "devices")
+    device = f"device one\nat ::1\nkey {NEW_KEY.decode()}\n"
+    for key, files, told_of, answer in (
+        (("--key-file", "key"), ("key", "policy"), "key policy policy", "no devices"),
+        (listed, ("devices", "policy"), "devices policy policy devices", "devices ok: 1 devices, 1 prefixes"),
+    ):
+        for mode, count in ((0o640, 0), (0o604, 1), (0o666, 1)):
+            before = lambda: [os.chmod(name, mode) for name in files]
+            with Server(program, key=key, devices=device, before=before) as server:
+                said = "".join(map(readable.format, told_of.split())) * count
+                server.ends("reload\nreload devices\nquit\n", f"ok\n{answer}\n", said)

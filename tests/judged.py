@@ -1,0 +1,150 @@
+"""A process whose calls of the system are judged before they are made, and whose clock is ours. So a
+test needn't wait for a clock, nor fill a disk. It is of Linux on x86-64: seccomp_unotify(2) and
+ptrace(2)."""
+
+import collections
+import contextlib
+import ctypes
+import fcntl
+import os
+import pathlib
+import select
+import socket
+import struct
+import threading
+
+# The numbers of system calls.
+WRITE, FDATASYNC, CLOCK_GETTIME, CLOCK_NANOSLEEP, EPOLL_CTL = 1, 75, 228, 230, 233
+EPOLL_CREATE1, CLONE3 = 291, 435
+# So many calls are judged at once: one that is kept waiting holds up no other.
+JUDGES = 4
+# A filter's lines, what they answer, and what is asked of it.
+LOAD, UNLESS, ANSWER = 0x20, 0x15, 0x06
+ALLOWED, TOLD = 0x7FFF0000, 0x7FC00000
+NO_NEW_PRIVILEGES, SECCOMP, SET_FILTER, NEW_LISTENER = 38, 317, 1, 8
+RECEIVE, SEND, GOES_ON = 0xC0502100, 0xC0182101, 1
+TRACE_ME, DETACH = 0, 17
+# Of what the system hands to a program: where code is that tells the time without a call, and nothing.
+QUICK_CLOCK, NOTHING = 33, 1
+REAL_TIME = 0
+
+libc = ctypes.CDLL(None, use_errno=True)
+libc.ptrace.argtypes, libc.ptrace.restype = [ctypes.c_long] * 4, ctypes.c_long
+
+
+class Call(collections.namedtuple("Call", "number arguments thread")):
+    """A call that is to be judged."""
+
+    def file(self):
+        """The path of the file that it is about."""
+        with contextlib.suppress(OSError):
+            return os.readlink(f"/proc/{self.thread}/fd/{self.arguments[0]}")
+        return ""
+
+    def inode(self):
+        return os.stat(f"/proc/{self.thread}/fd/{self.arguments[0]}").st_ino
+
+    def seconds(self):
+        """For how long it is to sleep."""
+        with open(f"/proc/{self.thread}/mem", "rb", buffering=0) as memory:
+            memory.seek(self.arguments[2])
+            seconds, nanoseconds = struct.unpack("qq", memory.read(16))
+        return seconds + nanoseconds / 1_000_000_000
+
+
+class Clock:
+    """A clock that stands still but where it is told to go on. It begins at noon."""
+
+    def __init__(self):
+        self.now = 1_000_000_000_000
+        self.since_1970 = 1_795_953_600_000_000_000
+
+    def passes(self, seconds):
+        self.now += round(seconds * 1_000_000_000)
+        self.since_1970 += round(seconds * 1_000_000_000)
+
+    def told(self, call):
+        """It is told in place of the system's."""
+        which, place = call.arguments[:2]
+        time = self.since_1970 if which == REAL_TIME else self.now
+        with open(f"/proc/{call.thread}/mem", "r+b", buffering=0) as memory:
+            memory.seek(place)
+            memory.write(struct.pack("qq", *divmod(time, 1_000_000_000)))
+        return 0
+
+
+class Judged:
+    """A process of which these calls are judged. The judge answers none where one is to be made, and
+    else what comes of it: an error where that is negative. With a clock the process has that one."""
+
+    def __init__(self, judge=None, *calls, clock=None):
+        self.judge, self.calls, self.clock = judge, calls, clock
+        if clock:
+            self.calls = (CLOCK_GETTIME, *calls)
+        self.own, self.other = socket.socketpair()
+
+    def begin(self):
+        """In the process, before its program begins."""
+        if self.clock:
+            libc.ptrace(TRACE_ME, 0, 0, 0)
+        count = len(self.calls)
+        tests = [(UNLESS, count - at, 0, call) for at, call in enumerate(self.calls)]
+        lines = [(LOAD, 0, 0, 0), *tests, (ANSWER, 0, 0, ALLOWED), (ANSWER, 0, 0, TOLD)]
+        code = b"".join(struct.pack("HBBI", *line) for line in lines)
+        held = ctypes.create_string_buffer(code, len(code))
+        program = struct.pack("HxxxxxxP", len(lines), ctypes.addressof(held))
+        libc.prctl(NO_NEW_PRIVILEGES, 1, 0, 0, 0)
+        listener = libc.syscall(SECCOMP, SET_FILTER, NEW_LISTENER, program)
+        if listener < 0:
+            raise OSError(ctypes.get_errno(), "seccomp")
+        socket.send_fds(self.other, [struct.pack("i", os.getpid())], [listener])
+
+    def __enter__(self):
+        told, (self.listener,), _, _ = socket.recv_fds(self.own, 4, 1)
+        for _ in range(JUDGES):
+            threading.Thread(target=self.listen, daemon=True).start()
+        if self.clock:
+            take_quick_clock(*struct.unpack("i", told))
+        return self
+
+    def __exit__(self, *_):
+        self.own.close()
+        self.other.close()
+
+    def listen(self):
+        """Until the process is gone. A call whose thread got a signal meanwhile is told again."""
+        gone = select.poll()
+        gone.register(self.listener, 0)
+        while not gone.poll(0):
+            with contextlib.suppress(OSError):
+                told = bytearray(80)
+                fcntl.ioctl(self.listener, RECEIVE, told)
+                key, thread, _, number, _, _, *arguments = struct.unpack("QIIiIQ6Q", told)
+                came = self.outcome(Call(number, arguments, thread))
+                goes_on = GOES_ON if came is None else 0
+                value, error = max(came or 0, 0), min(came or 0, 0)
+                fcntl.ioctl(self.listener, SEND, struct.pack("Qqii", key, value, error, goes_on))
+
+    def outcome(self, call):
+        if call.number == CLOCK_GETTIME and self.clock:
+            return self.clock.told(call)
+        return self.judge(call)
+
+
+def take_quick_clock(process):
+    """The process, which waits for its tracer since its program began, asks the system for the time
+    from now on."""
+    os.waitpid(process, 0)
+    fields = pathlib.Path(f"/proc/{process}/stat").read_text().rpartition(")")[2].split()
+    place = int(fields[25])  # of its stack, where words, environment and what is handed over are
+    with open(f"/proc/{process}/mem", "r+b", buffering=0) as memory:
+        memory.seek(place)
+        found = memory.read(65_536)
+        words = struct.unpack(f"{len(found) // 8}Q", found[: len(found) // 8 * 8])
+        at = words.index(0, words[0] + 2) + 1
+        while words[at] not in (QUICK_CLOCK, 0):
+            at += 2
+        if words[at]:
+            memory.seek(place + 8 * at)
+            memory.write(struct.pack("Q", NOTHING))
+    libc.ptrace(DETACH, process, 0, 0)
