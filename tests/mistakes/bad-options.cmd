@@ -94,6 +94,12 @@ $ tacd serve --key k --port 1 --keep-records 10000001 policy
 ! For more information, try '--help'.
 status 2
 
+$ tacd serve --key k --port 1 --fail-delay 3001 policy
+! error: invalid value '3001' for '--fail-delay <MILLISECONDS>': 3001 is not in 0..=3000
+!
+! For more information, try '--help'.
+status 2
+
 $ tacd serve --key k --port 1 --rotate-at 0 policy
 ! error: invalid value '0' for '--rotate-at <N>': 0 is not in 1..=65536
 !
@@ -107,10 +113,10 @@ $ tacd serve --key k --port 1 --address 127.0.0 policy
 status 2
 
 # The least and the greatest of each are taken: so the file is looked for.
-$ tacd serve --key k --port 1 --workers 1 --connections-at-once 1 --per-address 0 --packet-memory 1 --idle 0 --login-idle 0 --keep-records 1000 --connections 1 --rotate-at 1 nowhere
+$ tacd serve --key k --port 1 --workers 1 --connections-at-once 1 --per-address 0 --packet-memory 1 --idle 0 --login-idle 0 --fail-delay 0 --keep-records 1000 --connections 1 --rotate-at 1 nowhere
 ! tacd: nowhere: No such file or directory (os error 2)
 status 4
 
-$ tacd serve --key k --port 65535 --workers 63 --connections-at-once 1000000 --per-address 1000000 --packet-memory 65536 --idle 86400 --login-idle 86400 --keep-records 10000000 --connections 4294967295 --rotate-at 65536 nowhere
+$ tacd serve --key k --port 65535 --workers 63 --connections-at-once 1000000 --per-address 1000000 --packet-memory 65536 --idle 86400 --login-idle 86400 --fail-delay 3000 --keep-records 10000000 --connections 4294967295 --rotate-at 65536 nowhere
 ! tacd: nowhere: No such file or directory (os error 2)
 status 4
