@@ -15,6 +15,7 @@ import time
 from cases import Case, Check, Outcome, Play
 from crowded import LOGINS, POLICY as HASHED
 from operated import Operator, attended, replace, told
+from proxied import called
 from served import (
     ASK,
     CLOSING,
@@ -124,10 +125,7 @@ def bad_headers(program):
         Unread() as unread,
         Server(program, **LISTED, proxy="proxy", before=unread.begin) as server,
     ):
-        connect(server).close()
-        with socket.socket(socket.AF_UNIX) as caller:
-            caller.connect(f"{server.folder.name}/proxy")
-            caller.sendall(b"GET / HTTP/1.1\r\n\r\n")
+        with called(server, b"GET / HTTP/1.1\r\n\r\n") as caller:
             require(is_closed(caller, SOON), "it is served")
         with connect(server, "127.0.0.1") as device:
             asked = is_answered(device, ASK, PERMITTED, key=KEY_OF_ONE, flag=CLOSING)
