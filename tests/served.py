@@ -197,9 +197,9 @@ class Supervised:
         self.judge = judge
         self.own, self.other = socket.socketpair()
 
-    def begin(self):
-        """In the process, before its program begins."""
-        lines = (
+    def filter(self):
+        """Which calls are told."""
+        return (
             (self.LOAD, 0, 0, self.NUMBER),
             (self.UNLESS, 3, 0, FDATASYNC),
             (self.UNLESS, 0, 3, OPENAT),
@@ -208,9 +208,12 @@ class Supervised:
             (self.ANSWER, 0, 0, self.TOLD),
             (self.ANSWER, 0, 0, self.ALLOWED),
         )
-        code = b"".join(struct.pack("HBBI", *line) for line in lines)
+
+    def begin(self):
+        """In the process, before its program begins."""
+        code = b"".join(struct.pack("HBBI", *line) for line in self.filter())
         held = ctypes.create_string_buffer(code, len(code))
-        program = struct.pack("HxxxxxxP", len(lines), ctypes.addressof(held))
+        program = struct.pack("HxxxxxxP", len(code) // 8, ctypes.addressof(held))
         libc = ctypes.CDLL(None, use_errno=True)
         libc.prctl(self.NO_NEW_PRIVILEGES, 1, 0, 0, 0)
         listener = libc.syscall(self.SECCOMP, self.SET_FILTER, self.NEW_LISTENER, program)
@@ -234,10 +237,13 @@ class Supervised:
                 told = bytearray(80)
                 fcntl.ioctl(self.listener, self.RECEIVE, told)
                 (call,) = struct.unpack_from("Q", told)
-                (number,) = struct.unpack_from("i", told, 16)
-                error = self.judge(number) or 0
-                answer = struct.pack("Qqii", call, 0, -error, 0 if error else self.GOES_ON)
-                fcntl.ioctl(self.listener, self.SEND, answer)
+                fcntl.ioctl(self.listener, self.SEND, struct.pack("Qqii", call, *self.answer(told)))
+
+    def answer(self, told):
+        """What a call that is told comes to: its result, its error, and whether it goes on."""
+        (number,) = struct.unpack_from("i", told, 16)
+        error = self.judge(number) or 0
+        return 0, -error, 0 if error else self.GOES_ON
 
 
 def free_port():
