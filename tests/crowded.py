@@ -12,6 +12,7 @@ from served import (
     CLOSING,
     FDATASYNC,
     KEPT,
+    LONGEST_WAIT,
     PERMITTED,
     SOON,
     Server,
@@ -180,7 +181,7 @@ def is_told(device):
     except BlockingIOError:
         return False
     finally:
-        device.setblocking(True)
+        device.settimeout(LONGEST_WAIT)
 
 
 def many_packets_at_once(program):
