@@ -576,7 +576,7 @@ def who_is_given_up(program):
         require(asks(device), "bob isn't permitted")
         require(is_closed(device, LONGEST_WAIT), "it is kept")
     reply = next(at for at, call in enumerate(watched.calls) if call.number == SENDTO)
-    place = watched.calls[reply].values[0]
+    place = watched.calls[reply].arguments[0]
     is_end = lambda call: call.number == CLOSE and call.arguments[0] == place
     waited = sum(waits_of(before_first(watched.calls[reply:], is_end)))
     require(waited <= 1500, f"it is given up after {waited} milliseconds")
@@ -592,7 +592,7 @@ def a_reply_that_is_held_back(program):
             require(asks(device), "bob isn't permitted")
             began = len(watched.calls)
             device.sendall(packet(wrong.replace("ann", "bob")))
-            is_read = lambda calls: any(map(of(RECVFROM), calls[began:])) and calls[-1].kind == EPOLL_WAIT
+            is_read = lambda calls: any(map(of(RECVFROM), calls[began:])) and calls[-1].number == EPOLL_WAIT
             watched.until(is_read, "the login isn't read")
             device.sendall(right)
             wanted = packet(FAILED) + packet(PERMITTED, flag=KEPT)
@@ -711,7 +711,7 @@ def the_last_connections(program):
         with connect(server, "127.0.0.1") as device:
             sent, wanted = packet(ASK, KEY_OF_ONE, flag=KEPT), packet(PERMITTED, KEY_OF_ONE, flag=KEPT)
             device.sendall(sent[:20])
-            is_read = lambda calls: any(map(of(RECVFROM), calls)) and calls[-1].kind == EPOLL_WAIT
+            is_read = lambda calls: any(map(of(RECVFROM), calls)) and calls[-1].number == EPOLL_WAIT
             watched.until(is_read, "the worker doesn't wait for the rest")
             require(answer(device, sent[20:], len(wanted)) == wanted, "its packet isn't served")
     numbers = (ACCEPT4, SENDTO, WRITE)
