@@ -13,8 +13,12 @@ import socket
 import struct
 import threading
 
+from cases import Wrong
+
 # The numbers of system calls.
-WRITE, FDATASYNC, CLOCK_GETTIME, CLOCK_NANOSLEEP, EPOLL_CTL = 1, 75, 228, 230, 233
+WRITE, SENDTO, RECVFROM, SHUTDOWN, BIND, LISTEN, SETSOCKOPT, FLOCK = 1, 44, 45, 48, 49, 50, 54, 73
+FSYNC, FDATASYNC, RENAME, MKDIR, RMDIR, UNLINK, CHMOD, FUTEX = 74, 75, 82, 83, 84, 87, 90, 202
+CLOCK_GETTIME, CLOCK_NANOSLEEP, EPOLL_CTL, OPENAT = 228, 230, 233, 257
 EPOLL_CREATE1, CLONE3 = 291, 435
 # So many calls are judged at once: one that is kept waiting holds up no other.
 JUDGES = 4
@@ -44,11 +48,19 @@ class Call(collections.namedtuple("Call", "number arguments thread")):
     def inode(self):
         return os.stat(f"/proc/{self.thread}/fd/{self.arguments[0]}").st_ino
 
+    def bytes(self, place, count):
+        """So many bytes that this argument leads to, or fewer where there are no more."""
+        with open(f"/proc/{self.thread}/mem", "rb", buffering=0) as memory:
+            memory.seek(self.arguments[place])
+            return memory.read(count)
+
+    def text(self, place):
+        """The text that this argument leads to, as a path."""
+        return self.bytes(place, 4096).partition(b"\0")[0].decode()
+
     def seconds(self):
         """For how long it is to sleep."""
-        with open(f"/proc/{self.thread}/mem", "rb", buffering=0) as memory:
-            memory.seek(self.arguments[2])
-            seconds, nanoseconds = struct.unpack("qq", memory.read(16))
+        seconds, nanoseconds = struct.unpack("qq", self.bytes(2, 16))
         return seconds + nanoseconds / 1_000_000_000
 
 
@@ -81,6 +93,8 @@ class Judged:
         self.judge, self.calls, self.clock = judge, calls, clock
         if clock:
             self.calls = (CLOCK_GETTIME, *calls)
+        # Why a call could not be judged, if one couldn't.
+        self.failure = None
         self.own, self.other = socket.socketpair()
 
     def begin(self):
@@ -110,6 +124,8 @@ class Judged:
     def __exit__(self, *_):
         self.own.close()
         self.other.close()
+        if self.failure:
+            raise Wrong(f"a call could not be judged: {self.failure!r}")
 
     def listen(self):
         """Until the process is gone. A call whose thread got a signal meanwhile is told again."""
@@ -128,7 +144,10 @@ class Judged:
     def outcome(self, call):
         if call.number == CLOCK_GETTIME and self.clock:
             return self.clock.told(call)
-        return self.judge(call)
+        try:
+            return self.judge(call)
+        except Exception as failure:  # of any kind: the process waits for what comes of its call
+            self.failure = self.failure or failure
 
 
 def take_quick_clock(process):
@@ -148,3 +167,9 @@ def take_quick_clock(process):
             memory.seek(place + 8 * at)
             memory.write(struct.pack("Q", NOTHING))
     libc.ptrace(DETACH, process, 0, 0)
+
+
+def call_of(process, thread):
+    """The number of the call that a thread waits in, or none."""
+    number = pathlib.Path(f"/proc/{process}/task/{thread}/syscall").read_text().split()[0]
+    return int(number) if number.isdigit() else None
