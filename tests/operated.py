@@ -757,10 +757,10 @@ def answered_where_the_log_fails(program):
 class Operator:
     """Somebody at the socket."""
 
-    def __init__(self, server):
+    def __init__(self, server, place="console"):
         self.stream = socket.socket(socket.AF_UNIX)
         self.stream.settimeout(LONGEST_WAIT)
-        self.stream.connect(f"{server.folder.name}/console")
+        self.stream.connect(os.path.join(server.folder.name, place))
         self.lines = self.stream.makefile("r")
         self.first = self.heard()
 
@@ -816,7 +816,7 @@ def stops(server, operator, complained=""):
 
 def comes_to(what, wanted):
     """Within some seconds."""
-    until = time.monotonic() + SOON
+    until = time.monotonic() + LONGEST_WAIT
     while (came := what()) != wanted:
         require(time.monotonic() < until, f"it comes to {came!r}, not {wanted!r}")
         time.sleep(0.01)
