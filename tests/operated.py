@@ -714,9 +714,13 @@ def an_output_that_fails(program):
     others."""
     unwritten = "tacd: the output could not be written\n"
     unsignalled = lambda: signal.signal(signal.SIGPIPE, signal.SIG_IGN)  # so that a write fails
-    with Server(program, "--workers", "3", before=unsignalled) as server, connect(server):
-        starts(server)
-        server.process.stdout.close()
+    ours, theirs = socket.socketpair()
+    more = {"output": theirs, "before": unsignalled}
+    with ours, theirs, Server(program, "--workers", "3", **more) as server, connect(server):
+        came = ours.makefile().readline()
+        require(came == f"listening {server.address[1]}\n", f"it says {came!r}")
+        # Whoever else has it by now, as a process that another case begins.
+        ours.shutdown(socket.SHUT_RDWR)
         began = time.monotonic()
         server.ends("shadow\n", complained=unwritten, status=4, is_listening=False)
         require(time.monotonic() - began < SOON, "it took too long")

@@ -14,7 +14,8 @@ import time
 
 from cases import Case, Check, Outcome, Play
 from crowded import LOGINS, POLICY as HASHED
-from operated import Operator, attended, replace, told
+from judged import WRITE, call_of
+from operated import Operator, attended, comes_to, replace, told
 from proxied import called
 from served import (
     ASK,
@@ -219,13 +220,21 @@ def a_policy_that_others_read(program):
             server.ends(is_listening=False)
 
 
+def is_written(server):
+    """Whether a thread of the server waits in a write."""
+    threads = os.listdir(f"/proc/{server.process.pid}/task")
+    return any(call_of(server.process.pid, thread) == WRITE for thread in threads)
+
+
 def more_than_may_wait(program):
     """The first that are said wait, and how many were left out is said after them."""
     readable = "tacd: policy: it has secrets, and any user of this machine can read it\n"
     with Unread() as unread:
         with attended(program, before=unread.begin) as server, Operator(server) as operator:
             pathlib.Path(server.folder.name, "policy").chmod(0o644)
-            for _ in range(MOST_WAITING + 18):
+            told(operator, ("reload", "ok"))
+            comes_to(lambda: is_written(server), True)
+            for _ in range(MOST_WAITING + 17):
                 told(operator, ("reload", "ok"))
             # One is being written.
             unread.tells(readable * (MOST_WAITING + 1) + "tacd: 17 complaints were left out\n")
