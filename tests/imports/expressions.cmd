@@ -76,6 +76,8 @@ user = bob {
 |  cmd = l { permit "a{b}" }|
 |  cmd = m { permit "{2}" }|
 |  cmd = n { permit "^{2}" }|
+|  cmd = o { permit "^(a{32}){12}$" }|
+|  cmd = p { permit "^(a{32}){13}$" }|
 }
 
 $ tacd import counts.conf
@@ -88,6 +90,7 @@ permit d (a{2}a*)
 permit e (ab){32}
 permit f( a{0})?
 permit g [a-c]{2,3}
+permit o (a{32}){12}
 ! counts.conf line 2: permit '^a{0,2}$': older expressions have no counts, and take '{' as itself: that reading is left out
 ! counts.conf line 3: permit '^a{1,2}$': older expressions have no counts, and take '{' as itself: that reading is left out
 ! counts.conf line 4: permit '^a{0,}$': older expressions have no counts, and take '{' as itself: that reading is left out
@@ -109,6 +112,9 @@ permit g [a-c]{2,3}
 ! counts.conf line 14: permit '{2}': it repeats nothing: left out
 ! counts.conf line 15: permit '^{2}': older expressions have no counts, and take '{' as itself: that reading is left out
 ! counts.conf line 15: permit '^{2}': it repeats nothing: left out
+! counts.conf line 16: permit '^(a{32}){12}$': older expressions have no counts, and take '{' as itself: that reading is left out
+! counts.conf line 17: permit '^(a{32}){13}$': older expressions have no counts, and take '{' as itself: that reading is left out
+! counts.conf line 17: permit '^(a{32}){13}$': it is too large for a pattern: left out
 status 5
 
 # What is no expression, or none that a pattern says, is told with why.
