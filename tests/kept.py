@@ -191,9 +191,9 @@ def a_removal_that_the_disk_refuses(program):
         stops(server, operator, BEGINS.format(kept, why) + IS_OVER.format(kept))
 
 
-def killed_at(program, path, last, before, line):
-    """A server is killed just before the call of this number that a line makes in the folder, and else as
-    soon as the line is answered. What policy it had at first, and whether the line was answered."""
+def killed_at(program, path, last, line):
+    """A server makes an edit, and is killed just before the call of this number that a line makes in the
+    folder; or else as soon as the line is answered. What policy it had at first, and whether it answered."""
     made = []
 
     def judge(done):
@@ -204,7 +204,7 @@ def killed_at(program, path, last, before, line):
     keeper = Keeper(path)
     with keeper.keeping(program) as (server, operator):
         first = operator.ask("policy")
-        told(operator, *((each, "ok") for each in before))
+        told(operator, (f"add group sure{last}", "ok"))
         keeper.judge_done = judge
         operator.type(line)
         try:
@@ -220,36 +220,35 @@ def killed_at(program, path, last, before, line):
 UNEDITED = FIRST.removesuffix("; ").replace("; ", "\n")
 
 
-def killed_while_it_keeps_an_edit(program):
-    """At each call in turn. The next server serves the edits before it, or with it; once it was answered,
-    with it."""
+def killed_at_each_call(program, line, left):
+    """A line is killed at each of its calls in turn, until it is answered. What the next server may serve
+    is told of the edits until then and this number. How often it was killed."""
     with folder() as path:
-        allowed = {UNEDITED}
-        for last in range(1, 30):
-            first, is_answered = killed_at(program, path, last, (), f"add user u{last}")
+        allowed = (UNEDITED,)
+        for last in range(1, 50):
+            first, is_answered = killed_at(program, path, last, line.format(last))
             require(first in allowed, f"it serves {first!r}, not one of {allowed}")
-            allowed = {f"{first}\nuser u{last}"} | ({first} if not is_answered else set())
+            *before, after = left(f"{first}\ngroup sure{last}", last)
+            allowed = (after,) if is_answered else (*before, after)
             if is_answered:
                 break
-        require(last > 5, f"before an edit is answered there are but {last - 1} calls")
-        first, _ = killed_at(program, path, 1, (), "reload")
+        require(is_answered, f"{line} is never answered")
+        first, _ = killed_at(program, path, 0, "add group last")
         require(first in allowed, f"at last it serves {first!r}, not one of {allowed}")
+        return last - 1
+
+
+def killed_while_it_keeps_an_edit(program):
+    """The next server serves the edits before it, or with it; once it was answered, with it."""
+    left = lambda edits, number: (edits, f"{edits}\ngroup new{number}")
+    times = killed_at_each_call(program, "add group new{}", left)
+    require(times >= 5, f"before an edit is answered there are but {times} calls")
 
 
 def killed_while_it_reloads(program):
     """The next server serves the edits, or FILE; once it was answered, FILE."""
-    with folder() as path:
-        allowed = {UNEDITED}
-        for last in range(1, 30):
-            edit = f"add user u{last}"
-            first, is_answered = killed_at(program, path, last, (edit,), "reload")
-            require(first in allowed, f"it serves {first!r}, not one of {allowed}")
-            allowed = {UNEDITED} | ({f"{first}\nuser u{last}"} if not is_answered else set())
-            if is_answered:
-                break
-        require(last > 2, f"before a reload is answered there are but {last - 1} calls")
-        first, _ = killed_at(program, path, 1, (), "add user eve")
-        require(first in allowed, f"at last it serves {first!r}, not one of {allowed}")
+    times = killed_at_each_call(program, "reload", lambda edits, _: (edits, UNEDITED))
+    require(times >= 2, f"before a reload is answered there are but {times} calls")
 
 
 def what_comes_to_the_drafts_name(program):
