@@ -8,6 +8,7 @@ import errno
 import fcntl
 import itertools
 import os
+import pathlib
 import socket
 import struct
 import threading
@@ -199,6 +200,20 @@ def asks(device, key=None, flag=KEPT):
     return is_answered(device, ASK, PERMITTED, flag=flag, **({"key": key} if key else {}))
 
 
+def arrives(count, server, device=None):
+    """Waits until so many bytes of a device are there for the server to be read; or where none is said, so
+    many calls to be accepted."""
+    ends = [f":{port:04X}" for port in (server.address[1], device.getsockname()[1] if device else 0)]
+    until = time.monotonic() + LONGEST_WAIT
+    while True:
+        for fields in map(str.split, pathlib.Path("/proc/net/tcp").read_text().splitlines()):
+            is_it = all(place.endswith(end) for place, end in zip(fields[1:], ends))
+            if is_it and int(fields[4].rpartition(":")[2], 16) >= count:
+                return
+        require(time.monotonic() < until, f"{count} don't come")
+        time.sleep(0.02)
+
+
 def counted(calls, is_one):
     return sum(map(is_one, calls))
 
@@ -236,6 +251,7 @@ def a_flood_of_calls(program):
             watched.hold(of(EPOLL_WAIT))
             for _ in range(FLOOD):
                 stack.enter_context(connect(server, source))
+            arrives(FLOOD, server)
             watched.hold(of(ACCEPT4))
             device.sendall(packet(ASK, KEY_OF_ONE, flag=KEPT))
             began = watched.release() - 1
@@ -262,6 +278,7 @@ def a_flood_beside_a_proxy(program):
         watched.hold(of(EPOLL_WAIT))
         for _ in range(FLOOD):
             stack.enter_context(connect(server, "127.0.0.1"))
+        arrives(FLOOD, server)
         head = line("127.0.0.1") + clear(ASK, KEPT_IN_CLEAR)
         device = stack.enter_context(called(server, head))
         began = watched.release()
@@ -330,6 +347,8 @@ def who_asks_without_a_pause(program):
             watched.hold(of(EPOLL_WAIT))
             busy.sendall(sent * 100)
             other.sendall(sent)
+            arrives(100 * len(sent), server, busy)
+            arrives(len(sent), server, other)
             began = watched.release()
             require(answer(other, b"", len(wanted)) == wanted, "another isn't answered")
             require(answer(busy, b"", 100 * len(wanted)) == 100 * wanted, "not all is answered")
@@ -446,8 +465,9 @@ def logins_that_end_together(program):
         is_hasher = hashers_of(server)
         with connect(server) as one, connect(server) as two:
             require(asks(one) and asks(two), "bob isn't permitted")
-            watched.freeze(is_hasher)
+            watched.hold(of(EPOLL_WAIT))
             began = len(watched.calls)
+            watched.freeze(is_hasher)
             for device in (one, two):
                 device.sendall(packet(ANN))
             watched.until(lambda calls: are_read(calls[began:], 2), "they aren't read")
