@@ -82,6 +82,7 @@ def cases(name):
         a_reply_that_finds_no_room,
         a_reply_that_cannot_be_sent,
         replies_go_at_once,
+        what_a_request_costs,
         an_end_with_the_last_bytes,
         a_reset_before_the_header,
         headers_that_are_awaited,
@@ -677,6 +678,20 @@ def replies_go_at_once(program):
             require(at_once == wanted, f"before a reply on {call.arguments[0]} the system is told {at_once}")
 
 
+def what_a_request_costs(program):
+    """One read and one write, and its worker isn't told anew what to wait for."""
+    numbers = (EPOLL_CTL, RECVFROM, SENDTO)
+    with watched_server(program, numbers, "--workers", "1") as (watched, server), connect(server) as device:
+        require(asks(device), "bob isn't permitted")
+        began = len(watched.calls)
+        for _ in range(20):
+            require(asks(device), "bob isn't permitted again")
+        made = [counted(watched.calls[began:], of(number)) for number in (RECVFROM, SENDTO)]
+        told = counted(watched.calls[began:], of(EPOLL_CTL))
+        # the system is told of the connection once, which may be after its first reply
+        require(made == [20, 20] and told <= 1, f"20 requests cost {made}, and {told} of the poll")
+
+
 def an_end_with_the_last_bytes(program):
     """A device that asks and says at once that nothing more comes is answered, and its connection is
     closed, though no device is ever given up."""
@@ -751,14 +766,25 @@ def the_last_connections(program):
 
 
 def the_end_wakes_all(program):
-    """Each of the workers is woken by `quit`, so that none sleeps on."""
-    with watched_server(program, (WRITE,), "--workers", "3") as (watched, server):
+    """Each of the workers is woken by `quit`, so that none sleeps on, and ends by that: the first one also
+    while the next isn't woken yet."""
+    with watched_server(program, (EPOLL_WAIT, WRITE), "--workers", "3") as (watched, server):
         with connect(server) as device:
             require(asks(device), "bob isn't permitted")
-        began = len(watched.calls)
-        server.quits()
-        ours = [call for call in watched.calls[began:] if call.thread == server.process.pid]
-    woken = {call.arguments[0] for call in ours if call.arguments[2] == 8}
+        process = server.process.pid
+        is_wake = lambda call: call.thread == process and call.number == WRITE and call.arguments[2] == 8
+        watched.freeze(lambda call: is_wake(call) and counted(watched.calls, is_wake) > 1)
+        server.process.stdin.write(b"quit\n")
+        server.process.stdin.flush()
+        watched.until(lambda _: watched.held, "no second worker is woken")
+        workers = {call.thread for call in watched.calls if call.number == EPOLL_WAIT}
+        until = time.monotonic() + LONGEST_WAIT
+        while all(os.path.exists(f"/proc/{process}/task/{worker}") for worker in workers):
+            require(time.monotonic() < until, "the first of three that is woken doesn't end")
+            time.sleep(0.02)
+        watched.release()
+        server.ends()
+    woken = {call.arguments[0] for call in watched.calls if is_wake(call)}
     require(len(woken) == 3, f"{len(woken)} of three workers are woken")
 
 
