@@ -17,7 +17,8 @@ import typing
 
 from cases import Case, Check, Outcome, Play
 from crowded import FAILED, LET_IN, LOGINS, is_told
-from overseen import RECVFROM, SENDTO, SETSOCKOPT, WRITE, Overseen
+from operated import starts
+from overseen import BRK, FUTEX, RECVFROM, SENDTO, SETSOCKOPT, WRITE, Overseen
 from proxied import KEPT_IN_CLEAR, called, clear, line
 from served import (
     ASK,
@@ -26,6 +27,8 @@ from served import (
     KEY_OF_ONE,
     LONGEST_WAIT,
     PERMITTED,
+    RECORD,
+    STORED,
     STRANGER,
     Server,
     answer,
@@ -35,10 +38,13 @@ from served import (
     packet,
     require,
     typed,
+    types,
 )
 
 # The numbers of further system calls, on x86-64.
-CLOSE, EPOLL_WAIT, EPOLL_CTL, ACCEPT4 = 3, 232, 233, 288
+CLOSE, MMAP, EPOLL_WAIT, EPOLL_CTL, ACCEPT4 = 3, 9, 232, 233, 288
+# What the second argument of a call of `futex` says.
+FUTEX_KIND, FUTEX_WAKE = 0x7F, 1
 # Where the arguments of a call of `epoll_wait` have how long it waits at most, in milliseconds.
 PATIENCE = 3
 # How many call at once: more than a worker accepts in a row.
@@ -83,6 +89,7 @@ def cases(name):
         a_reply_that_cannot_be_sent,
         replies_go_at_once,
         what_a_request_costs,
+        the_desk_is_taken_once,
         an_end_with_the_last_bytes,
         a_reset_before_the_header,
         headers_that_are_awaited,
@@ -189,10 +196,11 @@ class Watched(Overseen):
 
 
 @contextlib.contextmanager
-def watched_server(program, numbers, *options, **more):
-    """A server whose calls of these numbers are told."""
+def watched_server(program, numbers, *options, also=lambda: None, **more):
+    """A server whose calls of these numbers are told. This is done too before its program begins."""
     with Watched(*numbers) as watched:
-        with Server(program, *options, before=watched.begin, **more) as server:
+        begin = lambda: (watched.begin(), also())
+        with Server(program, *options, before=begin, **more) as server:
             yield watched, server
 
 
@@ -520,21 +528,20 @@ def a_login_of_one_who_is_gone(program):
     """The connection is closed, as the system can't wait for it, while the password is compared. Who calls
     next and logs in has a hash that takes long, and nobody waits for that."""
     numbers = (EPOLL_WAIT, EPOLL_CTL, RECVFROM, WRITE)
-    with Watched(*numbers) as watched:
-        begin = lambda: (watched.begin(), on_one_processor())
-        with Server(program, "--workers", "1", policy=HASHED, before=begin) as server:
-            is_hasher = hashers_of(server)
-            with connect(server) as other:
-                require(asks(other), "bob isn't permitted")
-                gone = logs_in_and_is_gone(watched, server, is_hasher)
-                with connect(server) as device:
-                    began = len(watched.calls)
-                    device.sendall(packet(EVE))
-                    watched.until(lambda calls: are_read(calls[began:], 1), "the next one isn't read")
-                    watched.freeze(lambda call: is_hasher(call) and call.at > gone.at)
-                    for _ in range(20):
-                        require(asks(other), "another waits for a password")
-                    require(not is_told(device), "the next one doesn't wait")
+    more = {"policy": HASHED, "also": on_one_processor}
+    with watched_server(program, numbers, "--workers", "1", **more) as (watched, server):
+        is_hasher = hashers_of(server)
+        with connect(server) as other:
+            require(asks(other), "bob isn't permitted")
+            gone = logs_in_and_is_gone(watched, server, is_hasher)
+            with connect(server) as device:
+                began = len(watched.calls)
+                device.sendall(packet(EVE))
+                watched.until(lambda calls: are_read(calls[began:], 1), "the next one isn't read")
+                watched.freeze(lambda call: is_hasher(call) and call.at > gone.at)
+                for _ in range(20):
+                    require(asks(other), "another waits for a password")
+                require(not is_told(device), "the next one doesn't wait")
 
 
 def on_one_processor():
@@ -690,6 +697,56 @@ def what_a_request_costs(program):
         told = counted(watched.calls[began:], of(EPOLL_CTL))
         # the system is told of the connection once, which may be after its first reply
         require(made == [20, 20] and told <= 1, f"20 requests cost {made}, and {told} of the poll")
+
+
+def the_desk_is_taken_once(program):
+    """A worker waits for the desk while an edit has it. Once it lets the desk go itself, its device's record
+    is there: it needs the desk no more."""
+    numbers = (BRK, MMAP, FUTEX, SENDTO)
+    options = ("--workers", "1")
+    with watched_server(program, numbers, *options, also=in_small_steps) as (watched, server):
+        starts(server)
+        process = server.process.pid
+        with connect(server) as device:
+            require(asks(device), "bob isn't permitted")
+            watched.freeze(lambda call: call.thread == process and call.number in (BRK, MMAP))
+            types(server, f"insert group ops 1 deny .*a{9 * '.'}")
+            count = 1
+            while not waits_for_the_desk(watched, device):
+                count += 1
+            watched.hold(lambda call: call.thread != process and is_wake(call))
+            answers = [f"record {it + 1} user bob update task 7 elapsed 0" for it in range(count)]
+            types(server, "records", "ok", f"user bob now denies: show a{9 * ' '}", *answers)
+            watched.release()
+            require(answer(device, b"", len(packet(STORED))) == packet(STORED), "a record isn't answered")
+        server.ends("quit\n", is_listening=False)
+
+
+def in_small_steps():
+    """The process takes memory so, whatever this environment says."""
+    os.unsetenv("GLIBC_TUNABLES")
+
+
+def is_wake(call):
+    """Whether it wakes who waits for a lock that is let go."""
+    return call.number == FUTEX and call.arguments[1] & FUTEX_KIND == FUTEX_WAKE
+
+
+def waits_for_the_desk(watched, device):
+    """Whether the worker does, with a record, where the edit takes memory. Else the record is answered, and
+    the edit goes on until it takes memory again."""
+    watched.until(lambda _: watched.held, "the edit takes no memory")
+    edit = watched.held[0][0]
+    began = len(watched.calls)
+    device.sendall(packet(RECORD))
+    is_worker = lambda call: call.thread != edit.thread and call.number in (FUTEX, SENDTO)
+    watched.until(lambda calls: any(map(is_worker, calls[began:])), "a record comes to nothing")
+    if next(filter(is_worker, watched.calls[began:])).number == FUTEX:
+        return True
+    require(answer(device, b"", len(packet(STORED))) == packet(STORED), "a record isn't stored")
+    takes_memory = watched.is_held
+    watched.freeze(lambda call: takes_memory(call) and call.at > edit.at)
+    return False
 
 
 def an_end_with_the_last_bytes(program):
