@@ -18,7 +18,7 @@ import typing
 from cases import Case, Check, Outcome, Play
 from crowded import FAILED, LET_IN, LOGINS, is_told
 from operated import starts
-from overseen import BRK, FUTEX, RECVFROM, SENDTO, SETSOCKOPT, WRITE, Overseen
+from overseen import RECVFROM, SENDTO, SETSOCKOPT, WRITE, Overseen
 from proxied import KEPT_IN_CLEAR, called, clear, line
 from served import (
     ASK,
@@ -42,7 +42,7 @@ from served import (
 )
 
 # The numbers of further system calls, on x86-64.
-CLOSE, MMAP, EPOLL_WAIT, EPOLL_CTL, ACCEPT4 = 3, 9, 232, 233, 288
+CLOSE, MMAP, BRK, FUTEX, EPOLL_WAIT, EPOLL_CTL, ACCEPT4 = 3, 9, 12, 202, 232, 233, 288
 # What the second argument of a call of `futex` says.
 FUTEX_KIND, FUTEX_WAKE = 0x7F, 1
 # Where the arguments of a call of `epoll_wait` have how long it waits at most, in milliseconds.
