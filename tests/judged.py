@@ -19,7 +19,7 @@ from cases import Wrong
 WRITE, SENDTO, RECVFROM, SHUTDOWN, BIND, LISTEN, SETSOCKOPT, FLOCK = 1, 44, 45, 48, 49, 50, 54, 73
 FSYNC, FDATASYNC, RENAME, MKDIR, RMDIR, UNLINK, CHMOD, FUTEX = 74, 75, 82, 83, 84, 87, 90, 202
 CLOCK_GETTIME, CLOCK_NANOSLEEP, EPOLL_CTL, OPENAT = 228, 230, 233, 257
-EPOLL_CREATE1, CLONE3 = 291, 435
+ACCEPT4, EPOLL_CREATE1, CLONE3 = 288, 291, 435
 # So many calls are judged at once: one that is kept waiting holds up no other.
 JUDGES = 4
 # A filter's lines, what they answer, and what is asked of it.

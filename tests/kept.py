@@ -356,8 +356,13 @@ def edits_that_are_kept_while_another_server_begins(program):
                 stops(second, other, ENDED.format(path / KEPT))
 
 
+# The most bytes of a devices' file.
+LONGEST = 16_777_216
+
+
 def devices_are_read_again_and_again(program):
-    """Those of the last time count, also where the file is as long as before, or as it was once."""
+    """Those of the last time count, also where the file is as long as before, or as it was once; and the
+    longest file is read, but no longer one."""
     keys = [f"tundra-and-fjord-20{number}" for number in (26, 27, 28)]
     text = "device one\nat 127.0.0.1\nkey {}\n"
     more = {"key": ("--devices", "devices"), "devices": text.format(keys[0])}
@@ -368,6 +373,12 @@ def devices_are_read_again_and_again(program):
             for key in keys:
                 came = asks(server, "127.0.0.1", key.encode())
                 require(came == (key == keys[turn]), f"with {keys[turn]} {key} is taken: {came}")
+        for length, wanted in (
+            (LONGEST, "devices ok: 1 devices, 1 prefixes"),
+            (LONGEST + 1, f"devices unread devices: it is over {LONGEST} bytes long"),
+        ):
+            replace(server, f"#\n{text.format(keys[1])}".rjust(length, "#"))
+            told(operator, ("reload devices", wanted))
         told(operator, ("quit", "ok"))
         server.process.communicate(timeout=LONGEST_WAIT)  # it says which packets fit no key
 

@@ -14,7 +14,7 @@ import subprocess
 import tempfile
 import time
 
-from cases import Case, Check, Outcome, Play
+from cases import Case, Check, Outcome, Play, Wrong
 from served import (
     ASK,
     BLANK,
@@ -778,10 +778,13 @@ class Operator:
     def heard(self):
         """The next answer, or None where the session has ended."""
         answer = ""
-        while (line := self.lines.readline()) != "\n":
-            if not line:
-                return None
-            answer += line
+        try:
+            while (line := self.lines.readline()) != "\n":
+                if not line:
+                    return None
+                answer += line
+        except TimeoutError:
+            raise Wrong("an operator isn't answered") from None
         return answer.removesuffix("\n")
 
     def type(self, line):

@@ -3,6 +3,7 @@ how a server ends beside others, who may connect, and what may lie at the socket
 a function, as in served.py."""
 
 import contextlib
+import errno
 import os
 import pathlib
 import signal
@@ -13,8 +14,9 @@ import tempfile
 import threading
 import time
 
-from cases import Case, Check, Outcome, Play
+from cases import Case, Check, Outcome, Play, Wrong
 from judged import (
+    ACCEPT4,
     BIND,
     CHMOD,
     CLOCK_NANOSLEEP,
@@ -55,6 +57,8 @@ def cases(name):
         what_a_killed_server_left,
         a_server_that_listens,
         a_fifo_at_the_place,
+        what_else_is_at_the_place,
+        who_cannot_be_taken_in,
     ):
         expected = Outcome(b"", b"", 0)
         yield Case(f"{name}: {play.__name__}", [Check(Play(play), expected, "its console was used")])
@@ -139,7 +143,7 @@ def is_sent_away(operator):
     """Whether his session ends, with nothing more said."""
     try:
         return operator.heard() is None
-    except TimeoutError:
+    except Wrong:
         return False
 
 
@@ -231,24 +235,26 @@ def who_goes_loses_his_batch(program):
 
 
 def a_quit_beside_seven_others(program):
-    """Silent ones, one with a batch, and four whose lines wait for the console: it keeps none of them
-    waiting when it ends, and looks at each of them several times a second."""
+    """One with a batch, four whose lines wait for the console, and one who types it too, and is answered
+    too: none of them waits on when it ends. Each is looked at several times a second."""
     sessions = Sessions()
     with serving(program, sessions) as server, operators(server, sessions, 8) as several:
-        anna, ben, _, dora, *waiting = several
+        anna, ben, carla, dora, *waiting = several
         told(dora, ("begin", "ok"))
         policy = pathlib.Path(server.folder.name, "policy")
         policy.unlink()
         os.mkfifo(policy, 0o600)
         anna.type("reload")
         with policy.open("w") as file:  # as soon as the server reads it
-            ben.type("quit")
             for operator in waiting:
                 operator.stream.sendall(b"shadow\n" * 100)
-            for operator in (ben, *waiting):
+            ben.type("quit")
+            carla.type("quit")
+            for operator in (ben, carla, *waiting):
                 comes_to(lambda: call_of(server.process.pid, operator.thread), FUTEX)
             file.write(POLICY)
-        require((came := ben.heard()) == "ok", f"`quit` is answered by {came!r}")
+        for operator in (ben, carla):
+            require((came := operator.heard()) == "ok", f"`quit` is answered by {came!r}")
         for operator in several:
             while (came := operator.heard()) is not None:
                 require(came in ("ok", "none"), f"a line is answered by {came!r}")
@@ -385,3 +391,38 @@ def a_fifo_at_the_place(program):
             with Operator(server, place) as operator:
                 told(operator, ("quit", "ok"))
             server.ends(is_listening=False)
+
+
+def what_else_is_at_the_place(program):
+    """It stays, and the server ends: a file, and a link, also to a socket at which nobody listens."""
+
+    def links():
+        with socket.socket(socket.AF_UNIX) as dead:
+            dead.bind("dead")
+        os.symlink("dead", "console")
+
+    file = lambda: pathlib.Path("console").write_text("a file\n")
+    for lay, is_there in (
+        (file, lambda place: place.read_text() == "a file\n"),
+        (links, lambda place: os.readlink(place) == "dead"),
+    ):
+        with Server(program, "--console", "console", before=lay) as server:
+            server.ends(complained="tacd: console: it is no socket\n", status=4, is_listening=False)
+            place = pathlib.Path(server.folder.name, "console")
+            require(is_there(place), "what is there doesn't stay")
+
+
+def who_cannot_be_taken_in(program):
+    """As where too many files are open: each thread that takes operators in tries again."""
+    threads, failures, listeners = 9, [], []
+
+    def judge(call):
+        if call.number == BIND and b"console" in call.bytes(1, call.arguments[2]):
+            listeners.append(call.arguments[0])
+        if call.number == ACCEPT4 and call.arguments[0] in listeners and len(failures) < 2 * threads:
+            failures.append(call)
+            return -errno.EMFILE
+
+    with serving(program, Judged(judge, BIND, ACCEPT4)) as server, Operator(server) as operator:
+        require(len(failures) == 2 * threads, f"it tries {len(failures)} times")
+        stops(server, operator)
