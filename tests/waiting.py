@@ -17,8 +17,8 @@ import typing
 
 from cases import Case, Check, Outcome, Play
 from crowded import FAILED, LET_IN, LOGINS, is_told
+from judged import EPOLL_CTL, FUTEX, GOES_ON, RECEIVE, RECVFROM, SEND, SENDTO, SETSOCKOPT, WRITE, Judged
 from operated import starts
-from overseen import RECVFROM, SENDTO, SETSOCKOPT, WRITE, Overseen
 from proxied import KEPT_IN_CLEAR, called, clear, line
 from served import (
     ASK,
@@ -42,7 +42,7 @@ from served import (
 )
 
 # The numbers of further system calls, on x86-64.
-CLOSE, MMAP, BRK, FUTEX, EPOLL_WAIT, EPOLL_CTL, ACCEPT4 = 3, 9, 12, 202, 232, 233, 288
+CLOSE, MMAP, BRK, EPOLL_WAIT, ACCEPT4 = 3, 9, 12, 232, 288
 # What the second argument of a call of `futex` says.
 FUTEX_KIND, FUTEX_WAKE = 0x7F, 1
 # Where the arguments of a call of `epoll_wait` have how long it waits at most, in milliseconds.
@@ -106,7 +106,7 @@ class Call(typing.NamedTuple):
 
     thread: int
     number: int
-    arguments: tuple
+    arguments: list
     at: float
 
 
@@ -119,13 +119,13 @@ def nothing(call):
     return False
 
 
-class Watched(Overseen):
+class Watched(Judged):
     """A process whose calls of these numbers are told before they are made. They can be held: then whoever
     makes one waits until it is released. And the next ones of a kind can fail."""
 
     def __init__(self, *numbers):
         super().__init__(None, *numbers)
-        self.calls, self.failed, self.held = [], [], []
+        self.told, self.failed, self.held = [], [], []
         self.is_held, self.fails = nothing, []
         self.changed = threading.Condition()
 
@@ -137,31 +137,28 @@ class Watched(Overseen):
     def listen(self):
         """Until the process is gone."""
         with contextlib.suppress(OSError, ValueError):
-            _, (self.listener,), _, _ = socket.recv_fds(self.own, 1, 1)
+            _, (self.listener,), _, _ = socket.recv_fds(self.own, 4, 1)
             while True:
                 told = bytearray(80)
-                fcntl.ioctl(self.listener, self.RECEIVE, told)
-                self.hear(told)
+                fcntl.ioctl(self.listener, RECEIVE, told)
+                key, thread, _, number, _, _, *arguments = struct.unpack("QIIiIQ6Q", told)
+                self.hear(key, Call(thread, number, arguments, time.monotonic()))
 
-    def hear(self, told):
-        thread, _, number = struct.unpack_from("IIi", told, 8)
-        call = Call(thread, number, struct.unpack_from("6Q", told, 32), time.monotonic())
+    def hear(self, key, call):
         with self.changed:
-            self.calls.append(call)
+            self.told.append(call)
             if self.is_held(call):
-                self.held.append((call, told))
+                self.held.append((call, key))
             elif self.fails and self.fails[0][0](call):
                 self.failed.append(call)
-                self.goes_on(told, self.fails.pop(0)[1])
+                self.goes_on(key, self.fails.pop(0)[1])
             else:
-                self.goes_on(told)
+                self.goes_on(key)
             self.changed.notify_all()
 
-    def goes_on(self, told, error=0):
-        """The call is made, or fails with this error."""
-        (call,) = struct.unpack_from("Q", told)
-        answer = struct.pack("Qqii", call, 0, -error, 0 if error else self.GOES_ON)
-        fcntl.ioctl(self.listener, self.SEND, answer)
+    def goes_on(self, key, error=0):
+        """The call of this key is made, or fails with this error."""
+        fcntl.ioctl(self.listener, SEND, struct.pack("Qqii", key, 0, -error, 0 if error else GOES_ON))
 
     def fail(self, is_one, *errors):
         """The next calls like this fail so."""
@@ -172,11 +169,11 @@ class Watched(Overseen):
         """Calls like this are held from now on. Others that were held are made."""
         with self.changed:
             held, self.held, self.is_held = self.held, [], is_one
-            for call, told in held:
+            for call, key in held:
                 if is_one(call):
-                    self.held.append((call, told))
+                    self.held.append((call, key))
                 else:
-                    self.goes_on(told)
+                    self.goes_on(key)
 
     def hold(self, is_one):
         """The same, and one is held by now."""
@@ -185,14 +182,14 @@ class Watched(Overseen):
 
     def release(self):
         """All that were held are made. How many calls were told before, with these."""
-        count = len(self.calls)
+        count = len(self.told)
         self.freeze(nothing)
         return count
 
     def until(self, is_so, why):
         """Waits until this holds of the calls that were told."""
         with self.changed:
-            require(self.changed.wait_for(lambda: is_so(self.calls), LONGEST_WAIT), why)
+            require(self.changed.wait_for(lambda: is_so(self.told), LONGEST_WAIT), why)
 
 
 @contextlib.contextmanager
@@ -244,7 +241,7 @@ def before_last(calls, is_one):
 
 def last_thread(watched, number):
     """Who made the last call of this number."""
-    return [call.thread for call in watched.calls if call.number == number][-1]
+    return [call.thread for call in watched.told if call.number == number][-1]
 
 
 def a_flood_of_calls(program):
@@ -266,12 +263,12 @@ def a_flood_of_calls(program):
             began = watched.release() - 1
             wanted = packet(PERMITTED, KEY_OF_ONE, flag=KEPT)
             require(answer(device, b"", len(wanted)) == wanted, "the device isn't answered")
-            accepted = counted(before_first(watched.calls[began:], of(SENDTO)), of(ACCEPT4))
+            accepted = counted(before_first(watched.told[began:], of(SENDTO)), of(ACCEPT4))
             require(accepted < FLOOD, f"{accepted} of {source} were accepted before it is answered")
             # after the last one there is none
             is_over = lambda calls: counted(calls[began:], of(ACCEPT4)) > FLOOD
             watched.until(is_over, f"not all of {source} are accepted")
-            waits = waits_of(before_last(watched.calls[began:], of(ACCEPT4)))
+            waits = waits_of(before_last(watched.told[began:], of(ACCEPT4)))
             require(not any(waits), f"while {source} calls it waits so long: {waits}")
 
 
@@ -293,7 +290,7 @@ def a_flood_beside_a_proxy(program):
         began = watched.release()
         wanted = clear(PERMITTED, KEPT_IN_CLEAR)
         require(answer(device, b"", len(wanted)) == wanted, "the proxy's device isn't answered")
-        accepted = counted(before_first(watched.calls[began:], of(SENDTO)), of(ACCEPT4))
+        accepted = counted(before_first(watched.told[began:], of(SENDTO)), of(ACCEPT4))
         require(accepted < FLOOD, f"{accepted} were accepted before it")
 
 
@@ -312,7 +309,7 @@ def where_accepting_fails(program):
             with fails_to_accept(watched, server, error) as device:
                 require(asks(device, KEY_OF_ONE), f"who called isn't answered after error {error}")
         for failed, pause in zip(watched.failed, (50, 100, 200, 50, 0), strict=True):
-            goes_by(watched.calls, failed, pause)
+            goes_by(watched.told, failed, pause)
 
 
 def answered(server):
@@ -352,7 +349,7 @@ def who_asks_without_a_pause(program):
             places = []
             for device in (busy, other):
                 require(asks(device), "bob isn't permitted")
-                places.append([call.arguments[0] for call in watched.calls if call.number == SENDTO][-1])
+                places.append([call.arguments[0] for call in watched.told if call.number == SENDTO][-1])
             watched.hold(of(EPOLL_WAIT))
             busy.sendall(sent * 100)
             other.sendall(sent)
@@ -361,7 +358,7 @@ def who_asks_without_a_pause(program):
             began = watched.release()
             require(answer(other, b"", len(wanted)) == wanted, "another isn't answered")
             require(answer(busy, b"", 100 * len(wanted)) == 100 * wanted, "not all is answered")
-    calls = watched.calls[began:]
+    calls = watched.told[began:]
     replies = [call.arguments[0] for call in calls if call.number == SENDTO]
     require(replies.index(places[1]) <= 16, f"it has its turn after {replies.index(places[1])} answers")
     waits = waits_of(before_last(calls, of(SENDTO)))
@@ -380,7 +377,7 @@ def each_call_goes_where_the_fewest_are(program):
                 with connect(server) as device:
                     require(asks(device, flag=CLOSING), "bob isn't permitted by the third worker")
                     require(is_closed(device, LONGEST_WAIT), "the connection is kept")
-    first, second, *others = [call.thread for call in watched.calls]
+    first, second, *others = [call.thread for call in watched.told]
     require(len({first, second, *others}) == 3, "not each of the workers has one")
     require(len(set(others)) == 1, f"the calls are served by {others}, and two by {first} and {second}")
 
@@ -395,7 +392,7 @@ def what_is_handed_over_at_once(program):
         first = last_thread(watched, ACCEPT4)
         is_second = lambda call: call.number == EPOLL_WAIT and call.thread != first
         watched.hold(is_second)
-        began = len(watched.calls)
+        began = len(watched.told)
         devices = [stack.enter_context(connect(server)) for _ in range(6)]
         is_over = lambda calls: counted(calls[began:], of(WRITE, first)) >= 3
         watched.until(is_over, "the second worker isn't given three of six")
@@ -475,7 +472,7 @@ def logins_that_end_together(program):
         with connect(server) as one, connect(server) as two:
             require(asks(one) and asks(two), "bob isn't permitted")
             watched.hold(of(EPOLL_WAIT))
-            began = len(watched.calls)
+            began = len(watched.told)
             watched.freeze(is_hasher)
             for device in (one, two):
                 device.sendall(packet(ANN))
@@ -535,7 +532,7 @@ def a_login_of_one_who_is_gone(program):
             require(asks(other), "bob isn't permitted")
             gone = logs_in_and_is_gone(watched, server, is_hasher)
             with connect(server) as device:
-                began = len(watched.calls)
+                began = len(watched.told)
                 device.sendall(packet(EVE))
                 watched.until(lambda calls: are_read(calls[began:], 1), "the next one isn't read")
                 watched.freeze(lambda call: is_hasher(call) and call.at > gone.at)
@@ -603,10 +600,10 @@ def who_is_given_up(program):
     with watched_server(program, numbers, *options) as (watched, server), connect(server) as device:
         require(asks(device), "bob isn't permitted")
         require(is_closed(device, LONGEST_WAIT), "it is kept")
-    reply = next(at for at, call in enumerate(watched.calls) if call.number == SENDTO)
-    place = watched.calls[reply].arguments[0]
+    reply = next(at for at, call in enumerate(watched.told) if call.number == SENDTO)
+    place = watched.told[reply].arguments[0]
     is_end = lambda call: call.number == CLOSE and call.arguments[0] == place
-    waited = sum(waits_of(before_first(watched.calls[reply:], is_end)))
+    waited = sum(waits_of(before_first(watched.told[reply:], is_end)))
     require(waited <= 1500, f"it is given up after {waited} milliseconds")
 
 
@@ -618,7 +615,7 @@ def a_reply_that_is_held_back(program):
     with watched_server(program, numbers, *options, policy=HASHED) as (watched, server):
         with connect(server) as device:
             require(asks(device), "bob isn't permitted")
-            began = len(watched.calls)
+            began = len(watched.told)
             device.sendall(packet(wrong.replace("ann", "bob")))
             is_read = lambda calls: any(map(of(RECVFROM), calls[began:])) and calls[-1].number == EPOLL_WAIT
             watched.until(is_read, "the login isn't read")
@@ -626,7 +623,7 @@ def a_reply_that_is_held_back(program):
             wanted = packet(FAILED) + packet(PERMITTED, flag=KEPT)
             came = answer(device, b"", len(wanted))
             require(came == wanted, f"it is answered by {came}")
-    calls = watched.calls[began:]
+    calls = watched.told[began:]
     read = next(at for at, call in enumerate(calls) if call.number == RECVFROM)
     waits = waits_of(before_first(calls[read:], of(SENDTO)))
     require(waits and max(waits) <= 200, f"it waits so long: {waits}")
@@ -677,11 +674,11 @@ def replies_go_at_once(program):
                 require(asks(device), "bob isn't permitted")
         server.quits()
     at_once = None
-    for call in watched.calls:
+    for call in watched.told:
         if call.number == SETSOCKOPT:
             at_once = call.arguments[:3]
         else:
-            wanted = (call.arguments[0], socket.IPPROTO_TCP, socket.TCP_NODELAY)
+            wanted = [call.arguments[0], socket.IPPROTO_TCP, socket.TCP_NODELAY]
             require(at_once == wanted, f"before a reply on {call.arguments[0]} the system is told {at_once}")
 
 
@@ -690,11 +687,11 @@ def what_a_request_costs(program):
     numbers = (EPOLL_CTL, RECVFROM, SENDTO)
     with watched_server(program, numbers, "--workers", "1") as (watched, server), connect(server) as device:
         require(asks(device), "bob isn't permitted")
-        began = len(watched.calls)
+        began = len(watched.told)
         for _ in range(20):
             require(asks(device), "bob isn't permitted again")
-        made = [counted(watched.calls[began:], of(number)) for number in (RECVFROM, SENDTO)]
-        told = counted(watched.calls[began:], of(EPOLL_CTL))
+        made = [counted(watched.told[began:], of(number)) for number in (RECVFROM, SENDTO)]
+        told = counted(watched.told[began:], of(EPOLL_CTL))
         # the system is told of the connection once, which may be after its first reply
         require(made == [20, 20] and told <= 1, f"20 requests cost {made}, and {told} of the poll")
 
@@ -737,11 +734,11 @@ def waits_for_the_desk(watched, device):
     the edit goes on until it takes memory again."""
     watched.until(lambda _: watched.held, "the edit takes no memory")
     edit = watched.held[0][0]
-    began = len(watched.calls)
+    began = len(watched.told)
     device.sendall(packet(RECORD))
     is_worker = lambda call: call.thread != edit.thread and call.number in (FUTEX, SENDTO)
     watched.until(lambda calls: any(map(is_worker, calls[began:])), "a record comes to nothing")
-    if next(filter(is_worker, watched.calls[began:])).number == FUTEX:
+    if next(filter(is_worker, watched.told[began:])).number == FUTEX:
         return True
     require(answer(device, b"", len(packet(STORED))) == packet(STORED), "a record isn't stored")
     takes_memory = watched.is_held
@@ -830,18 +827,18 @@ def the_end_wakes_all(program):
             require(asks(device), "bob isn't permitted")
         process = server.process.pid
         is_wake = lambda call: call.thread == process and call.number == WRITE and call.arguments[2] == 8
-        watched.freeze(lambda call: is_wake(call) and counted(watched.calls, is_wake) > 1)
+        watched.freeze(lambda call: is_wake(call) and counted(watched.told, is_wake) > 1)
         server.process.stdin.write(b"quit\n")
         server.process.stdin.flush()
         watched.until(lambda _: watched.held, "no second worker is woken")
-        workers = {call.thread for call in watched.calls if call.number == EPOLL_WAIT}
+        workers = {call.thread for call in watched.told if call.number == EPOLL_WAIT}
         until = time.monotonic() + LONGEST_WAIT
         while all(os.path.exists(f"/proc/{process}/task/{worker}") for worker in workers):
             require(time.monotonic() < until, "the first of three that is woken doesn't end")
             time.sleep(0.02)
         watched.release()
         server.ends()
-    woken = {call.arguments[0] for call in watched.calls if is_wake(call)}
+    woken = {call.arguments[0] for call in watched.told if is_wake(call)}
     require(len(woken) == 3, f"{len(woken)} of three workers are woken")
 
 
