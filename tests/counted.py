@@ -13,6 +13,7 @@ import resource
 import signal
 import socket
 import struct
+import subprocess
 import tempfile
 import threading
 import time
@@ -117,6 +118,7 @@ def cases(name):
         lines_that_are_on_the_disk,
         a_fault_after_an_append,
         a_start_that_fails,
+        no_socket_of_a_console,
         who_may_read_secrets,
     ):
         expected = Outcome(b"", b"", 0)
@@ -158,6 +160,13 @@ class Told:
                 off = {name: (it, came.get(name)) for name, it in self.wanted.items() if it != came.get(name)}
                 raise Wrong(f"after {what} these are wanted, and come: {off}")
             time.sleep(0.01)
+
+
+def comes_to(wanted, what):
+    until = time.monotonic() + LONGEST_WAIT
+    while (came := what()) != wanted:
+        require(time.monotonic() < until, f"it comes to {came}, not {wanted}")
+        time.sleep(0.005)
 
 
 @contextlib.contextmanager
@@ -356,13 +365,8 @@ def halted(server):
     """Nothing of the server goes on meanwhile."""
     process = server.process.pid
     server.process.send_signal(signal.SIGSTOP)
-    until = time.monotonic() + LONGEST_WAIT
-    while any(
-        path.read_text().rpartition(")")[2].split()[0] != "T"
-        for path in pathlib.Path(f"/proc/{process}/task").glob("*/stat")
-    ):
-        require(time.monotonic() < until, "the server isn't halted")
-        time.sleep(0.005)
+    threads = list(pathlib.Path(f"/proc/{process}/task").glob("*/stat"))
+    comes_to({"T"}, lambda: {path.read_text().rpartition(")")[2].split()[0] for path in threads})
     yield
     server.process.send_signal(signal.SIGCONT)
 
@@ -424,10 +428,7 @@ def packets_without_room(program):
         with contextlib.ExitStack() as stack:
             for _ in range(8):
                 stack.enter_context(open_device(server, status)).sendall(MOST_OF_IT)
-                until = time.monotonic() + LONGEST_WAIT
-                while unread(server):
-                    require(time.monotonic() < until, "the server doesn't read")
-                    time.sleep(0.005)
+                comes_to(0, lambda: unread(server))
             status.after("eight packets")
             with connect(server) as device:
                 with contextlib.suppress(ConnectionError):
@@ -454,10 +455,7 @@ def logins_without_room(program):
             for device in devices:
                 device.sendall(packet(LOGINS["secret"]))
                 device.setblocking(False)
-            until = time.monotonic() + LONGEST_WAIT
-            while not are_counted(status, devices):
-                require(time.monotonic() < until, f"it tells {status.came()}")
-                time.sleep(0.01)
+            comes_to(True, lambda: are_counted(status, devices))
             pathlib.Path(server.folder.name, "policy").chmod(0o644)
             told(operator, ("reload", "ok"))
             said = [server.process.stderr.readline().decode() for _ in range(2)]
@@ -671,6 +669,11 @@ CALLS = (
 )
 
 
+def refusals(server):
+    """When lines of refused connections were made, why these were, and how many."""
+    return [(event["time"][17:23], event["why"], event["count"]) for event in logged(server)]
+
+
 def lines_of_refused_connections(program):
     """Of each reason one a second at most, which counts those since the line before. Standard error
     names one a minute."""
@@ -684,8 +687,7 @@ def lines_of_refused_connections(program):
             clock.passes(passed)
             is_refused(server, status, why, source, head)
             wanted += [told_of] if told_of else []
-            came = [(event["time"][17:23], event["why"], event["count"]) for event in logged(server)]
-            require(came == wanted, f"the log has {came}, not {wanted}")
+            comes_to(wanted, lambda: refusals(server))
         clock.passes(0.001)
         is_refused(server, status, "unknown_device", "127.0.0.7")
         said = (
@@ -693,6 +695,7 @@ def lines_of_refused_connections(program):
             "tacd: 127.0.0.7: unknown device, its connection is closed\n"
         )
         stops(server, operator, said)
+        require(refusals(server) == wanted, f"at last the log has {refusals(server)}, not {wanted}")
 
 
 # How the clock goes on, in milliseconds, and what time the next line has.
@@ -735,7 +738,7 @@ def a_log_that_takes_no_lines(program):
     """Whether it takes them is told of each fault, and until it is over. What isn't answered isn't
     counted as answered. Standard error says each once."""
     errors = []
-    judge = lambda call: errors[0] if errors and is_of_log(call) else None
+    judge = lambda call: next(iter(errors), None) if is_of_log(call) else None
     for number, error, options, why in (
         (WRITE, errno.ENOSPC, (), FULL),
         (FDATASYNC, errno.EIO, ("--sync",), BROKEN),
@@ -806,18 +809,12 @@ class Disk:
             return None
         return error
 
-    def comes_to(self, what, holds):
-        until = time.monotonic() + LONGEST_WAIT
-        while not holds():
-            require(time.monotonic() < until, f"it never comes to {what}")
-            time.sleep(0.002)
-
     def holds(self, device):
         """What this device asks is written, and kept on its way to the disk."""
         count = len(self.held)
         self.errors[FDATASYNC] = "held"
         device.sendall(packet(ASK, flag=KEPT))
-        self.comes_to("the disk", lambda: len(self.held) > count)
+        comes_to(True, lambda: len(self.held) > count)
 
     def rename(self, server):
         """The log has another name, and it is seen by the next line."""
@@ -867,11 +864,11 @@ def lines_that_are_on_the_disk(program):
         disk.holds(first)
         count = len(disk.done)
         second.sendall(packet(ASK, flag=KEPT))
-        disk.comes_to("another line", lambda: len(disk.done) > count)
+        comes_to(True, lambda: len(disk.done) > count)
         old = disk.rename(server)
         count = len(disk.done)
         third.sendall(packet(ASK, flag=KEPT))
-        disk.comes_to("the new file", lambda: any(inode != old for _, inode in disk.done[count:]))
+        comes_to(True, lambda: any(inode != old for _, inode in disk.done[count:]))
         disk.held[0].set()
         for device in (second, first, third):
             wanted = packet(PERMITTED, flag=KEPT)
@@ -944,3 +941,19 @@ def who_may_read_secrets(program):
             with Server(program, key=key, devices=device, before=before) as server:
                 said = "".join(map(readable.format, told_of.split())) * count
                 server.ends("reload\nreload devices\nquit\n", f"ok\n{answer}\n", said)
+
+
+def no_socket_of_a_console(program):
+    """Who types at what was the console before version 0.9.0 is told so, and at a socket of nobody too."""
+    with tempfile.TemporaryDirectory(prefix="tacd-counted-") as folder:
+        os.mkfifo(f"{folder}/fifo")
+        with socket.socket(socket.AF_UNIX) as nobody:
+            nobody.bind(f"{folder}/socket")
+            for name, why in (
+                ("fifo", "it is a FIFO, the console of a server before version 0.9.0: restart that first"),
+                ("socket", "no server listens at this socket"),
+            ):
+                words = ["tacd", "console", name, "status"]
+                ran = subprocess.run(words, executable=program, cwd=folder, capture_output=True)
+                came = (ran.stdout.decode(), ran.stderr.decode(), ran.returncode)
+                require(came == ("", f"tacd: {name}: {why}\n", 4), f"at a {name} it ends by {came}")

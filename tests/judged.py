@@ -99,8 +99,8 @@ class Judged:
 
     def begin(self):
         """In the process, before its program begins."""
-        if self.clock:
-            libc.ptrace(TRACE_ME, 0, 0, 0)
+        if self.clock and libc.ptrace(TRACE_ME, 0, 0, 0) != 0:
+            raise OSError(ctypes.get_errno(), "ptrace")
         count = len(self.calls)
         tests = [(UNLESS, count - at, 0, call) for at, call in enumerate(self.calls)]
         lines = [(LOAD, 0, 0, 0), *tests, (ANSWER, 0, 0, ALLOWED), (ANSWER, 0, 0, TOLD)]

@@ -229,19 +229,20 @@ def is_written(server):
 def more_than_may_wait(program):
     """The first that are said wait, and how many were left out is said after them."""
     readable = "tacd: policy: it has secrets, and any user of this machine can read it\n"
-    with Unread() as unread:
-        with attended(program, before=unread.begin) as server, Operator(server) as operator:
-            pathlib.Path(server.folder.name, "policy").chmod(0o644)
-            told(operator, ("reload", "ok"))
-            comes_to(lambda: is_written(server), True)
-            for _ in range(MOST_WAITING + 17):
+    for more, left_out in ((17, "17 complaints were"), (1, "1 complaint was")):
+        with Unread() as unread:
+            with attended(program, before=unread.begin) as server, Operator(server) as operator:
+                pathlib.Path(server.folder.name, "policy").chmod(0o644)
                 told(operator, ("reload", "ok"))
-            # One is being written.
-            unread.tells(readable * (MOST_WAITING + 1) + "tacd: 17 complaints were left out\n")
-            told(operator, ("reload", "ok"))
-            unread.tells(readable)
-            told(operator, ("quit", "ok"))
-            server.ends(is_listening=False)
+                comes_to(lambda: is_written(server), True)
+                for _ in range(MOST_WAITING + more):
+                    told(operator, ("reload", "ok"))
+                # One is being written.
+                unread.tells(readable * (MOST_WAITING + 1) + f"tacd: {left_out} left out\n")
+                told(operator, ("reload", "ok"))
+                unread.tells(readable)
+                told(operator, ("quit", "ok"))
+                server.ends(is_listening=False)
 
 
 def an_end_that_is_not_awaited(program):

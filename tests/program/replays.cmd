@@ -30,6 +30,18 @@ $ tacd replay < input > /dev/full
 ! tacd: the output could not be written
 status 4
 
+file asks
+key k
+run
+open 1
+bytes 1 d0010100fedcba9800000000
+
+# Where the lines of a log can't be written, the replies were.
+$ tacd replay --log /dev/full < asks
+closed 1
+! tacd: /dev/full: its lines could not be written
+status 4
+
 file input
 key k
 run␃
