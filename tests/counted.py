@@ -102,6 +102,7 @@ def cases(name):
         packets_without_room,
         logins_without_room,
         connections_that_are_refused,
+        reasons_of_proxies,
         connections_that_are_too_many,
         as_many_as_were_to_be_served,
         edits_and_devices,
@@ -110,9 +111,11 @@ def cases(name):
         edits_that_were_kept,
         for_how_long_it_serves,
         lines_of_refused_connections,
+        devices_with_another_key,
         times_of_lines,
         a_log_that_takes_no_lines,
         a_log_that_is_renamed,
+        a_line_that_has_no_end,
         a_line_of_any_length,
         lines_that_may_be_lost,
         lines_that_are_on_the_disk,
@@ -191,6 +194,22 @@ def exchanged(device, sent, key=KEY):
     return len(answer(device, b"", length)) == length
 
 
+def reads_as_metrics(text):
+    """Prometheus takes the text: before the numbers of a name stand what they are and of which kind."""
+    name = kind = None
+    for text_line in text.splitlines():
+        if help_of := re.fullmatch("# HELP ([a-z_]+) [A-Z1].+[.]", text_line):
+            before, name, kind = name, help_of[1], None
+            require(name != before, f"{name} is told twice")
+        elif kind_of := re.fullmatch("# TYPE ([a-z_]+) (counter|gauge)", text_line):
+            kind = kind_of[2]
+            require(kind_of[1] == name, f"{text_line!r} is below {name}")
+            require((kind == "counter") == name.endswith("_total"), f"{name} is no {kind}")
+        else:
+            number = re.fullmatch('([a-z_]+)({[a-z]+="[^"]+"(,[a-z]+="[^"]+")?})? [0-9]+', text_line)
+            require(number and number[1] == name and kind, f"{text_line!r} is below {name}, a {kind}")
+
+
 def all_lines_in_their_order(program):
     """Whatever has happened, and each with what is counted there: nothing, but for what the options say."""
     before = (
@@ -220,7 +239,8 @@ def all_lines_in_their_order(program):
         names += ["other_key", *after.split()]
         values |= {"info": 1, "workers": 1, "subjects": 2, "rules": 1, "operators": 1}
         values["devices"] = 4 if listed else 0
-        with counting(program, *options, **listed) as (_, _, status):
+        with counting(program, *options, **listed) as (_, operator, status):
+            reads_as_metrics(operator.ask("status"))
             came = [(re.sub("{version=.*}", "", name), it) for name, it in status.wanted.items()]
             wanted = [(named(name), values.get(name, 0)) for name in names]
             require(came == wanted, f"with {options} it tells {came}, not {wanted}")
@@ -354,10 +374,22 @@ def replies_that_are_not_taken(program):
         stops(server, operator)
 
 
-def resets(device):
-    """The device closes its connection by a reset."""
+def sockets(server):
+    """The addresses of each socket of IPv4 at the server's port or connected to it, and how many bytes
+    wait there."""
+    port = f":{server.address[1]:04X}"
+    for text in pathlib.Path("/proc/net/tcp").read_text().splitlines()[1:]:
+        _, here, there, _, queues, *_ = text.split()
+        if here.endswith(port) or there.endswith(port):
+            yield here, there, sum(int(it, 16) for it in queues.split(":"))
+
+
+def resets(server, device):
+    """The device closes its connection by a reset, which the server's system has seen."""
+    port = f":{device.getsockname()[1]:04X}"
     device.setsockopt(socket.SOL_SOCKET, socket.SO_LINGER, struct.pack("ii", 1, 0))
     device.close()
+    comes_to(False, lambda: any(there.endswith(port) for _, there, _ in sockets(server)))
 
 
 @contextlib.contextmanager
@@ -375,12 +407,12 @@ def connections_that_are_reset(program):
     """By a device that has said nothing, and by one whose reply can't be written any more."""
     with counting(program) as (server, operator, status):
         with open_device(server, status) as device:
-            resets(device)
+            resets(server, device)
             status.after("a reset", "connections -1, ended read +1")
         with open_device(server, status) as device:
             with halted(server):
                 device.sendall(packet(ASK, flag=KEPT))
-                resets(device)
+                resets(server, device)
             status.after("a question", "connections -1, command PASS_ADD +1, ended write +1")
         stops(server, operator)
 
@@ -411,16 +443,6 @@ def what_the_system_refuses(program):
 MOST_OF_IT = bytes.fromhex("c0020104000000010001fff0") + bytes(130_988)
 
 
-def unread(server):
-    """How many bytes are on their way to the server, or wait there."""
-    port, count = f":{server.address[1]:04X}", 0
-    for text in pathlib.Path("/proc/net/tcp").read_text().splitlines()[1:]:
-        _, here, there, _, queues, *_ = text.split()
-        if here.endswith(port) or there.endswith(port):
-            count += sum(int(it, 16) for it in queues.split(":"))
-    return count
-
-
 def packets_without_room(program):
     """A megabyte is 1,048,576 bytes, and 4,096 of each connection aren't counted. So there is room for
     eight packets of 131,000 bytes, which a million bytes wouldn't have, and not for a ninth."""
@@ -428,7 +450,7 @@ def packets_without_room(program):
         with contextlib.ExitStack() as stack:
             for _ in range(8):
                 stack.enter_context(open_device(server, status)).sendall(MOST_OF_IT)
-                comes_to(0, lambda: unread(server))
+                comes_to(0, lambda: sum(unread for _, _, unread in sockets(server)))
             status.after("eight packets")
             with connect(server) as device:
                 with contextlib.suppress(ConnectionError):
@@ -511,10 +533,25 @@ def connections_that_are_refused(program):
                 is_refused(server, status, "per_address", "127.0.0.1")
             status.after("its end", "connections -1, ended finished +1")
             with open_device(server, status, source="127.0.0.1"):
-                resets(device)
+                resets(server, device)
                 status.after("a reset", "connections -1, ended read +1")
         status.after("its end", "connections -1, ended finished +1")
         said = "tacd: 127.0.0.9: unknown device, its connection is closed\n"
+        stops(server, operator, said)
+
+
+def reasons_of_proxies(program):
+    """A server without a proxy tells of them once one of them was a reason."""
+    listed = {"key": ("--devices", "devices"), "devices": LISTED}
+    with counting(program, **listed) as (server, operator, status):
+        for why in ("no_key", "no_tls", "no_certificate", "other_certificate", "bad_proxy_header"):
+            require(named(f"refused {why}") not in status.wanted, f"{why} is told")
+            status.wanted[named(f"refused {why}")] = 0
+        is_refused(server, status, "no_key", "127.0.0.5")
+        names = [name for name in operator.numbers() if "refused" in name and "connections" in name]
+        wanted = [named(f"refused {why}") for why in REFUSED_BY_PROXIES.split()]
+        require(names == wanted, f"it tells {names}")
+        said = "tacd: 127.0.0.5: the device has no key, its connection is closed\n"
         stops(server, operator, said)
 
 
@@ -698,6 +735,31 @@ def lines_of_refused_connections(program):
         require(refusals(server) == wanted, f"at last the log has {refusals(server)}, not {wanted}")
 
 
+def devices_with_another_key(program):
+    """Each address is named once a minute, and others meanwhile."""
+    clock, said = Clock(), ""
+    more = {"key": ("--devices", "devices"), "devices": LISTED, "judged": Judged(clock=clock)}
+    with counting(program, **more) as (server, operator, status):
+        for passed, place, name in (
+            (0, 1, "one"),
+            (0, 1, None),
+            (30, 2, "two"),
+            (29.999, 1, None),
+            (0.001, 1, "one"),
+            (29.999, 2, None),
+            (29.999, 1, None),
+            (0.002, 1, "one"),
+            (0, 2, "two"),
+        ):
+            clock.passes(passed)
+            with connect(server, f"127.0.0.{place}") as device:
+                exchanged(device, RECORD, b"fjord-and-fell-2026-11")
+            changes = "packet bad_body +1, other_key +1, accepted +1, ended protocol +1"
+            status.after(f"another key of {place}", changes)
+            said += f"tacd: 127.0.0.{place}: device {name}, its packets don't fit the key\n" if name else ""
+        stops(server, operator, said)
+
+
 # How the clock goes on, in milliseconds, and what time the next line has.
 TIMES = (
     (0, "29T12:00:00.000"),
@@ -712,15 +774,17 @@ TIMES = (
 
 
 def times_of_lines(program):
-    """Each has the millisecond of its own, also where the clock goes back."""
+    """Each has the millisecond of its own, also where the clock goes back. So has one of the console."""
     clock = Clock()
     with counting(program, "--log", "log", judged=Judged(clock=clock)) as (server, operator, _):
+        log = pathlib.Path(server.folder.name, "log")
         with connect(server) as device:
             for passed, _ in TIMES:
                 clock.since_1970 += passed * 1_000_000
                 require(is_answered(device, ASK, PERMITTED, flag=KEPT), "bob isn't permitted")
-        came = [event["time"] for event in logged(server)]
-        wanted = [f"2026-11-{time}Z" for _, time in TIMES]
+                told(operator, ("shadow", "none"))
+        came = [json.loads(it)["time"] for it in log.read_text("utf-8").splitlines()]
+        wanted = [f"2026-11-{time}Z" for _, time in TIMES for _ in ("of the device", "of the console")]
         require(came == wanted, f"the log has {came}")
         stops(server, operator)
 
@@ -772,6 +836,33 @@ def a_log_that_is_renamed(program):
         told(operator, ("shadow", "none"))
         require(logged(server) == [] and len(log.read_text().splitlines()) == 1, "it has other lines")
         stops(server, operator)
+
+
+def a_line_that_has_no_end(program):
+    """What a crash or a full disk left of a line is ended before the next one. A request isn't answered
+    of whose line only a part fitted."""
+    parts = []
+    judged = Judged(lambda call: parts.pop() if parts and is_of_log(call) else None, WRITE, clock=Clock())
+    begin = lambda: (pathlib.Path("log").write_text('{"time"'), judged.begin())
+    with Server(program, "--console", "console", "--log", "log", before=begin) as server, judged:
+        starts(server)
+        log = pathlib.Path(server.folder.name, "log")
+        with Operator(server) as operator:
+            status = Told(operator)
+            for wanted in (1, 2):
+                require(is_permitted(server), "bob isn't permitted")
+                status.after("a question", PERMITS)
+                first, *others = log.read_text().splitlines()
+                require((first, len(others)) == ('{"time"', wanted), f"the log has {log.read_text()}")
+            parts.append(10)
+            require(not is_permitted(server), "a request is answered whose line isn't whole")
+            status.after("a part of a line", "accepted +1, ended log +1, log_takes_lines -1")
+            require(is_permitted(server), "bob isn't permitted any more")
+            status.after("a whole one", f"{PERMITS}, log_takes_lines +1")
+            # Here nothing of the part is there but its end.
+            ends = [bool(it) for it in log.read_text().splitlines()]
+            require(ends == [True, True, True, False, True], f"the log has {log.read_text()}")
+            stops(server, operator, FAILS.format("only a part of a line fitted") + TAKES)
 
 
 def a_line_of_any_length(program):
@@ -882,13 +973,16 @@ def lines_that_are_on_the_disk(program):
 
 def a_fault_after_an_append(program):
     """A line that was written before a log took none, and is put on the disk after that, doesn't say
-    that the log takes lines again."""
+    that the log takes lines again. Nor does one that was written between two faults."""
     disk = Disk()
-    with devices_beside(program, disk, 2) as (server, operator, status, (first, second)):
+    with devices_beside(program, disk, 3) as (server, operator, status, (first, second, third)):
+        disk.errors[WRITE] = -errno.ENOSPC
+        require(not exchanged(third, REQUESTS[6][0]), "the third is answered")
+        status.after("a fault", "log_takes_lines -1, connections -1, ended log +1")
         disk.holds(first)
         disk.errors[WRITE] = -errno.ENOSPC
         require(not exchanged(second, REQUESTS[6][0]), "the second is answered")
-        status.after("a fault", "log_takes_lines -1, connections -1, ended log +1")
+        status.after("another fault", "connections -1, ended log +1")
         disk.held[0].set()
         wanted = packet(PERMITTED, flag=KEPT)
         require(answer(first, b"", len(wanted)) == wanted, "the first isn't answered")
