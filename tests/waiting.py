@@ -552,6 +552,7 @@ def logs_in_and_is_gone(watched, server, is_hasher):
     watched.hold(of(EPOLL_WAIT))
     with connect(server) as device:
         device.sendall(packet(ANN))
+        arrives(len(packet(ANN)), server, device)
         watched.fail(of(EPOLL_CTL), errno.ENOSPC)
         watched.hold(is_hasher)
         require(is_closed(device, LONGEST_WAIT), "it is kept")
@@ -641,6 +642,7 @@ def a_reply_that_finds_no_room(program):
         watched.hold(of(EPOLL_WAIT))
         with connect(server) as device:
             device.sendall(packet(ASK, flag=KEPT))
+            arrives(len(packet(ASK, flag=KEPT)), server, device)
             watched.fail(of(SENDTO), errno.EAGAIN, errno.EAGAIN)
             watched.release()
             wanted = packet(PERMITTED, flag=KEPT)
@@ -758,6 +760,7 @@ def an_end_with_the_last_bytes(program):
                 device = device or stack.enter_context(connect(server))
                 device.sendall(packet(ASK, flag=KEPT))
                 device.shutdown(socket.SHUT_WR)
+                arrives(len(packet(ASK, flag=KEPT)), server, device)
                 watched.release()
                 wanted = packet(PERMITTED, flag=KEPT)
                 require(answer(device, b"", len(wanted)) == wanted, "it isn't answered")
