@@ -234,6 +234,12 @@ def who_goes_loses_his_batch(program):
     require(left == ["anna", None, "carla", None], f"batches are dropped by {left}")
 
 
+def is_there(server):
+    """Whether a device or an operator may find the server yet."""
+    with socket.socket() as device:
+        return not device.connect_ex(server.address) or os.path.lexists(f"{server.folder.name}/console")
+
+
 def a_quit_beside_seven_others(program):
     """One with a batch, four whose lines wait for the console, and one who types it too, and is answered
     too: none of them waits on when it ends. Each is looked at several times a second."""
@@ -255,7 +261,9 @@ def a_quit_beside_seven_others(program):
             file.write(POLICY)
         for operator in (ben, carla):
             require((came := operator.heard()) == "ok", f"`quit` is answered by {came!r}")
-        for operator in several:
+            require(not is_there(server), "`quit` is answered before the end")
+            require(operator.heard() is None, "more is said after `quit` is answered")
+        for operator in (anna, dora, *waiting):
             while (came := operator.heard()) is not None:
                 require(came in ("ok", "none"), f"a line is answered by {came!r}")
         server.ends(is_listening=False)
