@@ -10,6 +10,7 @@ import os
 import pathlib
 import re
 import resource
+import select
 import signal
 import socket
 import struct
@@ -480,8 +481,17 @@ def logins_without_room(program):
             comes_to(True, lambda: are_counted(status, devices))
             pathlib.Path(server.folder.name, "policy").chmod(0o644)
             told(operator, ("reload", "ok"))
-            said = [server.process.stderr.readline().decode() for _ in range(2)]
-            require(said == [CROWDED, READABLE], f"it says {said}")
+            says(server, CROWDED + READABLE)
+
+
+def says(server, wanted):
+    """That is what standard error says next."""
+    stream, came, until = server.process.stderr.fileno(), b"", time.monotonic() + LONGEST_WAIT
+    while len(came) < len(wanted) and time.monotonic() < until:
+        if select.select([stream], [], [], 0.1)[0]:
+            came += (more := os.read(stream, len(wanted) - len(came)))
+            require(more, f"it ends, and has said {came}")
+    require(came == wanted.encode(), f"it says {came}, not {wanted!r}")
 
 
 def are_counted(status, devices):
@@ -1006,13 +1016,14 @@ def a_start_that_fails(program):
 
     no_thread = "tacd: a thread could not be made\n"
     few = "tacd: there are too few file descriptors for the workers\n"
-    for judged, said in (
-        (Judged(judge, CLONE3, CLOCK_NANOSLEEP), no_thread),
-        (Judged(lambda _: -errno.EAGAIN, CLONE3), no_thread),
-        (Judged(lambda _: -errno.EMFILE, EPOLL_CREATE1), few),
-        (Judged(lambda _: -errno.ENOMEM, EPOLL_CREATE1), "tacd: memory ran out\n"),
+    operators = ("--console", "console")
+    for options, judged, said in (
+        ((), Judged(judge, CLONE3, CLOCK_NANOSLEEP), no_thread),
+        (operators, Judged(lambda _: -errno.EAGAIN, CLONE3), no_thread),
+        (operators, Judged(lambda _: -errno.EMFILE, EPOLL_CREATE1), few),
+        (operators, Judged(lambda _: -errno.ENOMEM, EPOLL_CREATE1), "tacd: memory ran out\n"),
     ):
-        with Server(program, "--console", "console", before=judged.begin) as server, judged:
+        with Server(program, *options, before=judged.begin) as server, judged:
             server.ends(complained=said, status=3, is_listening=False)
     with socket.create_server(("0.0.0.0", 0)) as other:
         with Server(program, "--log", "none/log", port=other.getsockname()[1]) as server:
