@@ -31,7 +31,7 @@ from served import LONGEST_WAIT, POLICY, Server, require, typed
 DRAFT, KEPT = ".kept.tacd-draft", "kept"
 SYNCS = (FSYNC, FDATASYNC)
 PERMITTED = "permitted by group ops rule 1"
-ENDED = "tacd: {}: served in place of policy, since it has edits of the console; 'reload' takes that again\n"
+SERVED = "tacd: {}: served in place of policy, since it has edits of the console; 'reload' takes that again\n"
 
 
 def cases(name):
@@ -58,7 +58,7 @@ def cases(name):
 @contextlib.contextmanager
 def folder():
     with tempfile.TemporaryDirectory(prefix="tacd-served-") as path:
-        yield pathlib.Path(path)
+        yield pathlib.Path(path).resolve()
 
 
 class Keeper(Judged):
@@ -333,7 +333,7 @@ def policies_of_many_megabytes(program):
         with attended(program, *words, policy=LONG) as server, Operator(server) as operator:
             require((came := typed(program, server, "policy")) == whole, f"{len(came)} bytes are printed")
             require(operator.numbers()["tacd_serves_edits"] == "1", "it tells that FILE is served")
-            stops(server, operator, ENDED.format(path / KEPT))
+            stops(server, operator, SERVED.format(path / KEPT))
 
 
 def edits_that_are_kept_while_another_server_begins(program):
@@ -353,7 +353,7 @@ def edits_that_are_kept_while_another_server_begins(program):
             starts(second)
             with Operator(second) as other:
                 told(other, ("why eve ping", "denied by default"))
-                stops(second, other, ENDED.format(path / KEPT))
+                stops(second, other, SERVED.format(path / KEPT))
 
 
 # The most bytes of a devices' file.
