@@ -20,7 +20,7 @@ import threading
 import time
 
 from cases import Case, Check, Outcome, Play, Wrong
-from crowded import LOGINS
+from crowded import LOGINS, is_told
 from generated import asked, given
 from judged import (
     CLOCK_NANOSLEEP,
@@ -28,6 +28,7 @@ from judged import (
     EPOLL_CREATE1,
     EPOLL_CTL,
     FDATASYNC,
+    SENDTO,
     WRITE,
     Clock,
     Judged,
@@ -106,6 +107,7 @@ def cases(name):
         reasons_of_proxies,
         connections_that_are_too_many,
         as_many_as_were_to_be_served,
+        where_calls_go,
         edits_and_devices,
         devices_that_come_back,
         taken_out_in_its_first_packet,
@@ -416,6 +418,13 @@ def connections_that_are_reset(program):
                 resets(server, device)
             status.after("a question", "connections -1, command PASS_ADD +1, ended write +1")
         stops(server, operator)
+    # One with two keys, whose first packet is awaited whole.
+    with counting(program, key=("--devices", "devices"), devices=LISTED) as (server, operator, status):
+        with open_device(server, status, source="127.0.0.2") as device:
+            device.sendall(packet(ASK, OLD_KEY, flag=KEPT)[:20])
+            resets(server, device)
+            status.after("a part of a packet", "connections -1, ended read +1")
+        stops(server, operator)
 
 
 def what_the_system_refuses(program):
@@ -446,19 +455,22 @@ MOST_OF_IT = bytes.fromhex("c0020104000000010001fff0") + bytes(130_988)
 
 def packets_without_room(program):
     """A megabyte is 1,048,576 bytes, and 4,096 of each connection aren't counted. So there is room for
-    eight packets of 131,000 bytes, which a million bytes wouldn't have, and not for a ninth."""
-    with counting(program, "--packet-memory", "1") as (server, operator, status):
-        with contextlib.ExitStack() as stack:
-            for _ in range(8):
-                stack.enter_context(open_device(server, status)).sendall(MOST_OF_IT)
-                comes_to(0, lambda: sum(unread for _, _, unread in sockets(server)))
-            status.after("eight packets")
-            with connect(server) as device:
-                with contextlib.suppress(ConnectionError):
-                    device.sendall(MOST_OF_IT)
-                require(is_closed(device, LONGEST_WAIT), "a ninth finds room")
-            status.after("a ninth", "accepted +1, ended packet_memory +1")
-        status.after("their end", "connections -8, ended finished +8")
+    eight packets of 131,000 bytes, which a million bytes wouldn't have, and not for a ninth. Those of
+    devices with two keys count too, and what is over leaves all its room."""
+    listed = {"key": ("--devices", "devices"), "devices": LISTED.replace("connections 2\n", "")}
+    with counting(program, "--packet-memory", "1", **listed) as (server, operator, status):
+        for source in ("127.0.0.1", "127.0.0.2", "127.0.0.2"):
+            with contextlib.ExitStack() as stack:
+                for _ in range(8):
+                    stack.enter_context(open_device(server, status, source=source)).sendall(MOST_OF_IT)
+                    comes_to(0, lambda: sum(unread for _, _, unread in sockets(server)))
+                status.after("eight packets")
+                with connect(server, source) as device:
+                    with contextlib.suppress(ConnectionError):
+                        device.sendall(MOST_OF_IT)
+                    require(is_closed(device, LONGEST_WAIT), "a ninth finds room")
+                status.after("a ninth", "accepted +1, ended packet_memory +1")
+            status.after("their end", "connections -8, ended finished +8")
         stops(server, operator)
 
 
@@ -599,6 +611,35 @@ def as_many_as_were_to_be_served(program):
             require(exchanged(devices[0], RECORD), "the first isn't answered")
             status.after("a record", "account SUCCESS +1, records +1")
         status.after("its end", "connections -1, ended finished +1")
+        stops(server, operator)
+
+
+def where_calls_go(program):
+    """Each to the worker that has the fewest connections by then, so that who is gone counts no more.
+    While the one worker waits here in a reply, the other one answers."""
+    waiting, goes_on, wanted = [], threading.Event(), packet(PERMITTED, flag=KEPT)
+
+    def judge(call):
+        """The first of the replies to devices is kept waiting."""
+        if not waiting and call.bytes(1, 2) == wanted[:2]:
+            waiting.append(call)
+            goes_on.wait(LONGEST_WAIT)
+
+    judged = Judged(judge, SENDTO, clock=Clock())
+    with counting(program, judged=judged, workers="2") as (server, operator, status):
+        with open_device(server, status) as first:
+            with open_device(server, status):
+                pass
+            status.after("a device that goes", "connections -1, ended finished +1")
+            with open_device(server, status) as second:
+                first.sendall(packet(ASK, flag=KEPT))
+                comes_to(1, lambda: len(waiting))
+                asked = is_answered(second, ASK, PERMITTED, flag=KEPT)
+                require(asked and not is_told(first), "one has to wait for the other")
+                goes_on.set()
+                require(answer(first, b"", len(wanted)) == wanted, "the first isn't answered")
+            status.after("an end", "connections -1, ended finished +1, command PASS_ADD +2")
+        status.after("another end", "connections -1, ended finished +1")
         stops(server, operator)
 
 
