@@ -23,6 +23,7 @@ from judged import (
     FUTEX,
     LISTEN,
     MKDIR,
+    OPENAT,
     REAL_TIME,
     RECVFROM,
     RENAME,
@@ -376,25 +377,38 @@ def a_server_that_listens(program):
             stops(server, operator)
 
 
+class Asking(Judged):
+    """A process that finds out whether a FIFO has a reader: one thread waits for one, and another sleeps
+    meanwhile. That sleep begins once the first is about to wait, and so many seconds later."""
+
+    def __init__(self, seconds):
+        super().__init__(self.hold, OPENAT, CLOCK_NANOSLEEP)
+        self.seconds, self.asks = seconds, threading.Event()
+
+    def hold(self, call):
+        if call.number == OPENAT:
+            if call.arguments[2] & os.O_ACCMODE == os.O_WRONLY and call.text(1).endswith("/console"):
+                self.asks.set()
+        elif call.seconds() == 0.25:
+            self.asks.wait(LONGEST_WAIT)
+            time.sleep(self.seconds)
+
+
 def a_fifo_at_the_place(program):
-    """As servers had one before. One that nobody reads is taken away. One that somebody reads stays."""
-
-    def judge(call):
-        """The server has a second more to find out, as this machine may be busy."""
-        if call.seconds() == 0.25:
-            time.sleep(1)
-
-    system = Judged(judge, CLOCK_NANOSLEEP)
+    """As servers had one before. One that nobody reads is taken away. One that somebody reads stays: this
+    machine may be busy, so there is a second more to see him."""
     with tempfile.TemporaryDirectory(prefix="tacd-served-") as folder:
         place = pathlib.Path(folder, "console")
         os.mkfifo(place, 0o600)
         reader = os.open(place, os.O_RDONLY | os.O_NONBLOCK)
+        system = Asking(1)
         with Server(program, "--console", place, before=system.begin) as server, system:
             why = f"tacd: {place}: it is no socket\n"
             server.ends(complained=why, status=4, is_listening=False)
         require(place.is_fifo(), "the FIFO is taken away")
         os.close(reader)
-        with Server(program, "--console", place) as server:
+        system = Asking(0)
+        with Server(program, "--console", place, before=system.begin) as server, system:
             starts(server)
             with Operator(server, place) as operator:
                 told(operator, ("quit", "ok"))
