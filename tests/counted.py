@@ -428,16 +428,20 @@ def connections_that_are_reset(program):
 
 
 def what_the_system_refuses(program):
-    """It can't watch a socket, or has no memory for a long packet."""
+    """It can't watch a socket: of a device, of one whose first packet is awaited, or of one whose header
+    is. Or it has no memory for a long packet."""
     errors = {}
     judged = Judged(lambda call: errors.get(call.number), EPOLL_CTL, clock=Clock())
-    with counting(program, judged=judged) as (server, operator, status):
+    listed = {"key": ("--devices", "devices"), "devices": LISTED, "proxy": "proxy"}
+    with counting(program, judged=judged, **listed) as (server, operator, status):
         errors[EPOLL_CTL] = -errno.ENOSPC
-        with connect(server) as device:
-            require(is_closed(device, LONGEST_WAIT), "one is kept that can't be watched")
+        for source in ("127.0.0.1", "127.0.0.2"):
+            with connect(server, source) as device:
+                require(is_closed(device, LONGEST_WAIT), "one is kept that can't be watched")
+            status.after(f"a call of {source}", "accepted +1, ended server +1")
+        is_refused(server, status, "memory", head=b"PROXY TCP4 ")
         errors.clear()
-        status.after("a socket that can't be watched", "accepted +1, ended server +1")
-        with open_device(server, status) as device:
+        with open_device(server, status, source="127.0.0.1") as device:
             limit, process = resource.RLIMIT_DATA, server.process.pid
             before = resource.prlimit(process, limit)
             resource.prlimit(process, limit, (resource.getpagesize(), before[1]))
@@ -446,7 +450,6 @@ def what_the_system_refuses(program):
             require(is_closed(device, LONGEST_WAIT), "one is kept whose packet finds no memory")
             resource.prlimit(process, limit, before)
             status.after("no memory", "connections -1, ended memory +1")
-        stops(server, operator)
 
 
 # A packet of 131,087 bytes but for its last ones.
