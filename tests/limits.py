@@ -12,11 +12,11 @@ import re
 import resource
 import time
 
-from called import BOTH_KEYS, FAILED, NEW, OLD, PASSED, serving
-from cases import Case, Check, File, Outcome, Play, Run, replay_check
+from called import BOTH_KEYS, NEW, OLD, PASSED, asks, serving
+from cases import Case, Check, File, Outcome, Play, Run, Wrong, replay_check
 from generated import STORED as STORED_IN_CLEAR, asked, opened, record, tally_line
 from notation import spelled_out
-from operated import Operator, attended, told
+from operated import Operator, attended, starts, told
 from proxied import called, clear, line as header
 from reviewed import reviewed
 from served import (
@@ -26,7 +26,6 @@ from served import (
     LONGEST_WAIT,
     PERMITTED,
     RECORD,
-    SOON,
     STORED,
     Server,
     answer,
@@ -48,6 +47,8 @@ def cases(name):
     """Each case of this file, with the name of the function that plays it."""
     for play in (
         over_a_thousand_connections_of_a_worker,
+        over_a_thousand_first_packets,
+        a_connection_of_many_packets,
         the_end_awaits_a_first_packet,
         so_many_headers_of_a_proxy,
         packet_memory_to_its_last_byte,
@@ -60,6 +61,9 @@ def cases(name):
         no_more_edits_than_needed,
         no_more_services_than_needed,
         no_more_moves_than_needed,
+        an_edit_concerns_few,
+        those_of_the_same_rules_are_one,
+        services_that_stay_are_not_asked,
     ):
         expected = Outcome(b"", b"", 0)
         yield Case(f"{name}: {play.__name__}", [Check(Play(play), expected, "its devices called")])
@@ -83,41 +87,116 @@ def may_open(count):
         resource.setrlimit(resource.RLIMIT_NOFILE, (min(count, most), most))
 
 
-def data_of(server):
-    """How many bytes the server has for itself, whether it uses them or not."""
+def kilobytes(server, name):
+    """How large a part of the server's memory is. That of data has all that it may write to."""
     text = pathlib.Path(f"/proc/{server.process.pid}/status").read_text()
-    return int(re.search(r"^VmData:\s+(\d+) kB$", text, re.M)[1]) * 1024
+    return int(re.search(rf"^{name}:\s+(\d+) kB$", text, re.M)[1])
+
+
+# States of a socket (proc_pid_net(5)).
+ESTABLISHED, LISTENS = "01", "0A"
+# More than ten bits count.
+COUNT = 1_030
+CROWDED = ("--workers", "1", "--per-address", "0", "--connections-at-once", "2000", "--idle", "0")
 
 
 def over_a_thousand_connections_of_a_worker(program):
-    """The one worker waits for the first packet of each, whichever key that has, and answers all of
-    them. Each then costs it a few kilobytes."""
-    count = 1100
+    """The one worker answers all of them. Each then costs it a few kilobytes."""
     may_open(8192)
-    options = ("--workers", "1", "--per-address", "0", "--connections-at-once", "2000")
-    with serving(program, BOTH_KEYS, *options) as server, contextlib.ExitStack() as stack:
-        with connect(server) as device:
-            is_first = is_answered(device, ASK, PERMITTED, key=OLD, flag=CLOSING)
-            require(is_first, "the first isn't answered")
-        # Each thread has its place by now, but for one or two.
-        typed(program, server, "status")
-        before = data_of(server)
-        devices = [stack.enter_context(connect(server)) for _ in range(count)]
-        for _ in range(2):
+    with attended(program, *CROWDED) as server, contextlib.ExitStack() as stack:
+        with Operator(server) as operator:
+            # Each thread has its place by now, but for one or two.
+            operator.numbers()
+            before = kilobytes(server, "VmData")
+            devices = [answered(server, stack) for _ in range(COUNT)]
             for number, device in enumerate(devices):
-                key = (OLD, NEW)[number % 2]
-                is_next = is_answered(device, ASK, PERMITTED, key=key, flag=KEPT)
-                require(is_next, f"connection {number} isn't answered")
-        each = (data_of(server) - before) // count
-        require(each < 40_000, f"each connection takes {each} bytes")
-        stack.close()
+                require(is_answered(device, ASK, PERMITTED, flag=KEPT), f"{number} isn't answered again")
+            each = (kilobytes(server, "VmData") - before) / COUNT
+            require(each < 40, f"each connection takes {each} kB")
+            stack.close()
+            told(operator, ("quit", "ok"))
+        server.ends(is_listening=False)
+
+
+def answered(server, stack, **more):
+    """A connection on which something was answered: its device has all the time that it wants."""
+    device = stack.enter_context(connect(server))
+    require(is_answered(device, ASK, PERMITTED, flag=KEPT, **more), "a connection isn't answered")
+    return device
+
+
+def unread(server):
+    """How many bytes are on their way between the server and its devices, and how many devices wait to
+    be accepted. A connection that the server has closed doesn't count."""
+    port, count = f":{server.address[1]:04X}", 0
+    for line in pathlib.Path("/proc/net/tcp").read_text().splitlines()[1:]:
+        _, here, there, state, waiting, *_ = line.split()
+        if state in (ESTABLISHED, LISTENS) and port in (here[-5:], there[-5:]):
+            count += sum(int(part, 16) for part in waiting.split(":"))
+    return count
+
+
+def all_is_read(server):
+    """Waits until the server has accepted all who called, and read all that they sent."""
+    until = time.monotonic() + LONGEST_WAIT
+    while unread(server):
+        require(time.monotonic() < until, "not all is read")
+        time.sleep(0.01)
+
+
+def in_time(play):
+    """Plays what a device has ten seconds for, and again where this machine took longer."""
+    for _ in range(5):
+        began = time.monotonic()
+        try:
+            return play()
+        except Wrong:
+            if time.monotonic() < began + 9:
+                raise
+
+
+def over_a_thousand_first_packets(program):
+    """The one worker awaits all of them, to see which key each has."""
+    may_open(8192)
+    in_time(lambda: await_first_packets(program))
+
+
+def await_first_packets(program):
+    keys = (OLD, NEW) * (COUNT // 2)
+    with serving(program, BOTH_KEYS, *CROWDED) as server, contextlib.ExitStack() as stack:
+        devices = [stack.enter_context(connect(server)) for _ in keys]
+        all_is_read(server)
+        for device, key in zip(devices, keys):
+            with contextlib.suppress(ConnectionError):
+                device.sendall(packet(ASK, key, flag=KEPT))
+        for number, (device, key) in enumerate(zip(devices, keys)):
+            wanted = packet(PERMITTED, key, flag=KEPT)
+            require(answer(device, b"", len(wanted)) == wanted, f"connection {number} isn't answered")
         typed(program, server, "quit")
         server.ends()
+
+
+def a_connection_of_many_packets(program):
+    """What was answered takes no memory any more, of whatever length it was."""
+    sent, wanted = packet(request(64_000)), packet(PERMITTED, flag=KEPT)
+    with Server(program, "--workers", "1") as server, connect(server) as device:
+        taken = []
+        for count in (5, 70):
+            came = [answer(device, sent, len(wanted)) for _ in range(count)]
+            require(came == [wanted] * count, "a long packet isn't answered")
+            taken.append(kilobytes(server, "VmRSS"))
+        more = taken[1] - taken[0]
+        require(more < 2_000, f"70 packets of 64 kB leave {more} kB")
+        server.quits()
 
 
 def the_end_awaits_a_first_packet(program):
     """A worker that has served as many connections as it is to, but for one whose first packet isn't
     whole, serves that one too."""
+    in_time(lambda: end_after_a_first_packet(program))
+
+
+def end_after_a_first_packet(program):
     words = {"key": ("--devices", "devices"), "devices": BOTH_KEYS}
     options = ("--no-console", "--workers", "1", "--connections", "2")
     with Server(program, *options, **words) as server, connect(server) as device:
@@ -135,23 +214,29 @@ def the_end_awaits_a_first_packet(program):
 def so_many_headers_of_a_proxy(program):
     """As many are awaited as there may be connections. One more is closed, and counted as one too
     many, until one of them is whole."""
+    in_time(lambda: await_headers(program))
+
+
+def await_headers(program):
     devices = f"{BOTH_KEYS}device inside\nat 192.0.2.1\ntls\n"
     options = ("--workers", "1", "--connections-at-once", "3", "--per-address", "0")
     head, wanted = header("192.0.2.1"), clear(PERMITTED)
     with serving(program, devices, *options, proxy="proxy") as server, contextlib.ExitStack() as stack:
         awaited = [stack.enter_context(called(server, head[:9])) for _ in range(3)]
-        for number in (1, 2):
+        for _ in range(2):
             with called(server, head[:9]) as device:
-                require(is_closed(device, SOON), "one more is awaited")
-            lines = typed(program, server, "status")
-            counted = f'tacd_connections_refused_total{{why="at_once"}} {number}\n'
-            require(counted in lines, f"it tells {lines}")
+                # The first of these may come before it, and not the second.
+                for _ in range(2):
+                    require(asks(server, "127.0.0.1", OLD), "a device isn't answered at the port")
+                require(is_closed(device, 1), "one more is awaited")
         came = answer(awaited.pop(), head[9:] + clear(ASK), len(wanted) + 1)
         require(came == wanted, f"one that was awaited is answered by {came}")
         awaited.append(stack.enter_context(called(server, head[:9])))
         for device in awaited:
             came = answer(device, head[9:] + clear(ASK), len(wanted) + 1)
             require(came == wanted, f"one that was awaited is answered by {came}")
+        lines = typed(program, server, "status")
+        require('refused_total{why="at_once"} 2\n' in lines, f"it tells {lines}")
         typed(program, server, "quit")
         server.ends()
 
@@ -172,29 +257,6 @@ def request(size):
     return asked(["service=shell", "cmd=show", *words], KEPT)
 
 
-def unread(server):
-    """How many bytes are on their way between the server and its devices, and who waits to be
-    accepted."""
-    port, count = f":{server.address[1]:04X}", 0
-    for line in pathlib.Path("/proc/net/tcp").read_text().splitlines()[1:]:
-        _, here, there, _, waiting, *_ = line.split()
-        if here.endswith(port) or there.endswith(port):
-            count += sum(int(part, 16) for part in waiting.split(":"))
-    return count
-
-
-def hold(server, stack, begun, count):
-    """So many connections that have sent this, which the server has read."""
-    devices = [stack.enter_context(connect(server)) for _ in range(count)]
-    for device in devices:
-        device.sendall(begun)
-    until = time.monotonic() + LONGEST_WAIT
-    while unread(server):
-        require(time.monotonic() < until, "not all is read")
-        time.sleep(0.01)
-    return devices
-
-
 def packet_memory_to_its_last_byte(program):
     """The first 4,096 bytes that a connection holds are free, also those of a first packet whose key
     isn't known. What is beyond that of all connections together fits the packet memory to its last
@@ -203,38 +265,48 @@ def packet_memory_to_its_last_byte(program):
     for key, devices in ((NEW, f"device one\nat 127.0.0.1\nkey {NEW.decode()}\n"), (OLD, BOTH_KEYS)):
         options = ("--workers", "1", "--per-address", "0", "--packet-memory", "1", "--idle", "0")
         with serving(program, devices, *options) as server, contextlib.ExitStack() as stack:
-            fill_packet_memory(program, server, stack, key)
+            small, wanted = packet(request(FREE + 1), key), packet(PERMITTED, key, flag=KEPT)
+            waiting = [answered(server, stack, key=key) for _ in range(270)]
+            for device in waiting:
+                device.sendall(small[:-1])
+            room = fill_packet_memory(server, stack, key)
+            for count in (1, 2, 3):
+                has_room_for(server, room, key)
+                lines = typed(program, server, "status")
+                counted = f'tacd_connections_ended_total{{why="packet_memory"}} {count}\n'
+                require(counted in lines, f"it tells {lines}")
+            for device in waiting:
+                came = answer(device, small[-1:], len(wanted))
+                require(came == wanted, f"one that holds little is answered by {came}")
             typed(program, server, "quit")
             server.ends()
 
 
-def fill_packet_memory(program, server, stack, key):
-    wanted = packet(PERMITTED, key, flag=KEPT)
-    small = packet(request(FREE + 1), key)
-    waiting = hold(server, stack, small[:-1], 300)
-    before = packet(request(64_000), key)
+def fill_packet_memory(server, stack, key):
+    """How much of it is left by as many connections as nearly fill it. On each there were long packets
+    before."""
+    sent, wanted = packet(request(64_000), key), packet(PERMITTED, key, flag=KEPT)
     room = PACKET_MEMORY
     while room > len(NEARLY_LONGEST) - FREE:
-        (device,) = hold(server, stack, b"", 1)
+        device = answered(server, stack, key=key)
         for _ in range(2):
-            came = answer(device, before, len(wanted))
+            came = answer(device, sent, len(wanted))
             require(came == wanted, f"a long packet is answered by {came}")
         device.sendall(NEARLY_LONGEST)
+        all_is_read(server)
         room -= len(NEARLY_LONGEST) - FREE
-    hold(server, stack, b"", 1)
-    for count in (1, 2, 3):
-        with connect(server) as device:
-            came = answer(device, packet(request(FREE + room), key), len(wanted))
-            require(came == wanted, f"one that fits is answered by {came}")
-        with connect(server) as device:
-            came = answer(device, packet(request(FREE + room + 1), key), 1)
-            require(came == b"", f"one that is a byte too long is answered by {came}")
-        lines = typed(program, server, "status")
-        counted = f'tacd_connections_ended_total{{why="packet_memory"}} {count}\n'
-        require(counted in lines, f"it tells {lines}")
-    for device in waiting:
-        came = answer(device, small[-1:], len(wanted))
-        require(came == wanted, f"one that holds little is answered by {came}")
+    return room
+
+
+def has_room_for(server, room, key):
+    """A first packet of so many bytes beside those that are free is answered, and none of one more."""
+    wanted = packet(PERMITTED, key, flag=KEPT)
+    with connect(server) as device:
+        came = answer(device, packet(request(FREE + room), key), len(wanted))
+        require(came == wanted, f"one that fits is answered by {came}")
+    with connect(server) as device:
+        came = answer(device, packet(request(FREE + room + 1), key), 1)
+        require(came == b"", f"one that is a byte too long is answered by {came}")
 
 
 def the_longest_first_packets(program):
@@ -311,7 +383,8 @@ def a_reload_of_all_subjects(program):
 
 def all_devices_are_read_again(program):
     """As many as a file may have, with as many prefixes."""
-    devices = "".join(device(number, PREFIXES // DEVICES, f"the key of d{number:04}") for number in range(DEVICES))
+    each = PREFIXES // DEVICES
+    devices = "".join(device(it, each, f"the key of d{it:04}") for it in range(DEVICES))
     words = {"key": ("--devices", "devices"), "devices": BOTH_KEYS}
     with Server(program, **words) as server:
         connect(server).close()
@@ -379,7 +452,7 @@ def no_more_moves_than_needed(program):
     nothing else is done."""
     rules = [f"permit show {it}\n" for it in range(RULES)]
     orders = [range(RULES)[::-1], [*range(1, RULES), 0], [RULES - 1, *range(RULES - 1)]]
-    orders += [random.Random(seed).sample(range(RULES), RULES) for seed in range(4)]
+    orders += [random.Random(seed).sample(range(RULES), RULES) for seed in range(2)]
     for order in orders:
         old, new = ("user bob\n" + "".join(it) for it in (rules, [rules[place] for place in order]))
         came = edits(program, old, new)
@@ -395,6 +468,91 @@ def longest_run(numbers):
         place = bisect.bisect(least, number)
         least[place:place + 1] = [number]
     return len(least)
+
+
+def processor_of(server):
+    """How many nanoseconds of a processor it took so far (clock_getcpuclockid(3))."""
+    return time.clock_gettime_ns(~server.process.pid << 3 | 2)
+
+
+def cost(server, turns):
+    """What a server takes of a processor to answer these lines five times."""
+    before = processor_of(server)
+    for line, *answers in list(turns) * 5:
+        types(server, line, *answers)
+    return processor_of(server) - before
+
+
+def is_soon(holds):
+    """Whether this holds now, or else once more: what a processor is shared with counts too."""
+    return holds() or holds()
+
+
+def an_edit_concerns_few(program):
+    """What takes long is done of those alone whom an edit concerns: so one of a user takes less than a
+    tenth of one that concerns sixty, whose rules have some hundred states each."""
+    words = ("vlan", "arp", "route", "clock", "users", "interface", "version", "log")
+    rules = "".join(f"permit show .*{word}.*\n" for word in words)
+    users = [f"u{it}" for it in range(60)]
+    policy = "user bob\npermit y\ngroup g\npermit ping\n"
+    policy += "".join(f"user {user} in g\n{rules}" for user in users)
+    one = (
+        ("insert user bob 1 permit x", "ok", "user bob now permits: x"),
+        ("drop user bob 1", "ok", "user bob now denies: x"),
+    )
+    many = (
+        ("insert group g 2 permit x", "ok", *(f"user {user} now permits: x" for user in users)),
+        ("drop group g 2", "ok", *(f"user {user} now denies: x" for user in users)),
+    )
+    with Server(program, "--workers", "1", policy=policy) as server:
+        starts(server)
+        is_less = is_soon(lambda: 10 * cost(server, one) < cost(server, many))
+        require(is_less, "an edit of one takes as long as one of many")
+        server.ends("quit\n", is_listening=False)
+
+
+def those_of_the_same_rules_are_one(program):
+    """An edit of a group takes not much longer where nine hundred share its rules than where one has
+    them."""
+    rules = "".join(f"permit show .*{word}.*\n" for word in ("vlan", "arp", "route", "clock"))
+    users = "".join(f"user u{it} in many\n" for it in range(900))
+    policy = f"group many\n{rules}group one\n{rules}user bob in one\n{users}"
+    one, many = (
+        ((f"insert group {group} 5 permit show vlan", "ok"), (f"drop group {group} 5", "ok"))
+        for group in ("one", "many")
+    )
+    with Server(program, "--workers", "1", policy=policy) as server:
+        starts(server)
+        is_less = is_soon(lambda: cost(server, many) < 10 * cost(server, one))
+        require(is_less, "an edit takes longer the more users share the rules")
+        server.ends("quit\n", is_listening=False)
+
+
+def services_that_stay_are_not_asked(program):
+    """An edit of a rule takes longer where three hundred users have 64 services each, since all that a
+    policy has is copied; but it asks for none of these."""
+    edits = (
+        ("insert user bob 1 permit x", "ok", "user bob now permits: x"),
+        ("drop user bob 1", "ok", "user bob now denies: x"),
+    )
+    with contextlib.ExitStack() as stack:
+        servers = []
+        for count in (0, LINES):
+            lines = (f"user u{user}\n" + service_lines(user, count) for user in range(300))
+            policy = f"policy 3\nuser bob\npermit y\n{''.join(lines)}"
+            servers.append(stack.enter_context(Server(program, "--workers", "1", policy=policy)))
+        for server in servers:
+            starts(server)
+        bare, full = servers
+        is_less = is_soon(lambda: cost(full, edits) < 50 * cost(bare, edits))
+        require(is_less, "an edit asks for all services")
+        for server in servers:
+            server.ends("quit\n", is_listening=False)
+
+
+def service_lines(user, count):
+    """So many services, which no other user has."""
+    return "".join(f"service x{user}-{it}\n" for it in range(count))
 
 
 def tallies_of_a_group():
@@ -414,8 +572,8 @@ def replayed(script, printed):
 
 
 def many_records():
-    """More than 65,536 of them are listed."""
-    count = 66_000
+    """More than 32,768 of them are listed."""
+    count = 33_000
     numbers = range(1, count + 1)
     script = opened("") + record(10, "b", "task_id=") * count + "console records\n"
     printed = STORED_IN_CLEAR * count
@@ -447,16 +605,18 @@ def lint_of_a_full_policy():
     rules = "".join(f"permit x{it} <cr>\n" for it in range(1, RULES))
     lines = [f"line {it + 3} column 8: {hides}" for it in range(1, RULES)]
     yield "rules", linted(begin + rules, lines, 5)
-    several = "".join(f"user u{it}\nlogin x\n{'permit .*' * 1}\n{rules}" for it in range(8))
-    lines = [f"line {it * (RULES + 2) + 3 + rule} column 8: {hides}" for it in range(8) for rule in range(1, RULES)]
+    several = "".join(f"user u{it}\nlogin x\npermit .*\n{rules}" for it in range(8))
+    firsts = [it * (RULES + 2) + 3 for it in range(8)]
+    lines = [f"line {it + rule} column 8: {hides}" for it in firsts for rule in range(1, RULES)]
     yield "rules of eight users", linted(several, lines, 5)
 
 
 def lint_of_refused_policies():
     """Each line that is wrong is told, and each wrong chain of as many subjects as there may be."""
-    orphans = "".join(f"user u{it} in g{it}\n" for it in range(SUBJECTS))
-    names = range(SUBJECTS)
-    lines = [f"line {it + 1} column {len(f'user u{it} in ') + 1}: the policy has no group g{it}" for it in names]
+    heads = [f"user u{it} in " for it in range(SUBJECTS)]
+    orphans = "".join(f"{head}g{it}\n" for it, head in enumerate(heads))
+    why = "the policy has no group"
+    lines = [f"line {it + 1} column {len(head) + 1}: {why} g{it}" for it, head in enumerate(heads)]
     yield "parents that aren't there", linted(orphans, lines, 1)
     # Of a group in a chain, the chain is followed as often as there are subjects.
     cycle = "".join(f"group g{it} in g{(it + 1) % 40}\n" for it in range(40))
@@ -464,12 +624,11 @@ def lint_of_refused_policies():
     back = "the chain of parents comes back to this group"
     lines = [f"line {it + 1} column {len(f'group g{it} in ') + 1}: {back}" for it in range(40)]
     yield "a chain without an end", linted(cycle, lines, 1)
-    large = "policy 2\n" + "".join(f"user u{it}\n" for it in range(1, SUBJECTS)) + "user last\ndeny .*a.{14}\n"
-    lines = [
-        f"line {SUBJECTS + 1} column 1: refused: TooManyStates: the rules along this chain have over 16384 states",
-        f"line {SUBJECTS + 2} column 9: a dot after a '.*' may double the states: '.*(vlan|arp).*' takes fewer than "
-        "two rules",
-    ]
+    users = "".join(f"user u{it}\n" for it in range(1, SUBJECTS))
+    large = f"policy 2\n{users}user last\ndeny .*a.{{14}}\n"
+    states = "refused: TooManyStates: the rules along this chain have over 16384 states"
+    dot = "a dot after a '.*' may double the states: '.*(vlan|arp).*' takes fewer than two rules"
+    lines = [f"line {SUBJECTS + 1} column 1: {states}", f"line {SUBJECTS + 2} column 9: {dot}"]
     yield "the last one too large", linted(large, lines, 1)
     wrong = "refused: 1 BadLine: no line of a policy begins with this word: is 'user' meant?"
     lines = [f"line {it} column 1: {wrong}" for it in range(1, 5001)]
