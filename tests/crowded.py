@@ -180,6 +180,8 @@ def is_told(device):
         return True
     except BlockingIOError:
         return False
+    except ConnectionError:
+        return True
     finally:
         device.settimeout(LONGEST_WAIT)
 

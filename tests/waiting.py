@@ -19,7 +19,7 @@ from cases import Case, Check, Outcome, Play
 from crowded import FAILED, LET_IN, LOGINS, is_told
 from judged import EPOLL_CTL, FUTEX, GOES_ON, RECEIVE, RECVFROM, SEND, SENDTO, SETSOCKOPT, WRITE, Judged
 from operated import starts
-from proxied import KEPT_IN_CLEAR, called, clear, line
+from proxied import KEPT_IN_CLEAR, called, clear, flagged, line
 from served import (
     ASK,
     CLOSING,
@@ -409,24 +409,31 @@ def hashers_of(server):
 
 def one_login_has_one_place(program):
     """However much a device sends while its password waits to be compared, there is room for other logins.
-    What it sent is served after that."""
-    with watched_server(program, (WRITE,), "--workers", "1", policy=HASHED) as (watched, server):
-        with connect(server) as talker, connect(server) as other, connect(server) as third:
-            talker.setsockopt(socket.IPPROTO_TCP, socket.TCP_NODELAY, 1)
-            require(asks(other), "bob isn't permitted")
+    What it sent is served after that. It comes by a proxy, since a Unix socket hands on each byte at once."""
+    more = {"policy": HASHED, "proxy": "proxy", **LISTED}
+    with watched_server(program, (WRITE,), "--workers", "1", **more) as (watched, server):
+        with (
+            called(server, line("127.0.0.1")) as talker,
+            connect(server, "127.0.0.1") as other, connect(server, "127.0.0.1") as third,
+        ):
+            # the system counts some 800 for each byte that waits
+            talker.setsockopt(socket.SOL_SOCKET, socket.SO_SNDBUF, 200_000)
+            require(asks(other, KEY_OF_ONE), "bob isn't permitted")
             watched.freeze(hashers_of(server))
-            talker.sendall(packet(ANN))
-            more = packet(ASK, flag=KEPT) * 5
-            for byte in more:
-                talker.sendall(bytes([byte]))
-                require(asks(other), "bob isn't permitted meanwhile")
-            third.sendall(packet(ANN))
-            require(asks(other), "bob isn't permitted beside two logins")
+            talker.sendall(clear(flagged(ANN), KEPT_IN_CLEAR))
+            talker.setblocking(False)
+            for byte in clear(ASK, KEPT_IN_CLEAR) * 6:
+                with contextlib.suppress(ConnectionError):
+                    talker.send(bytes([byte]))
+                require(asks(other, KEY_OF_ONE), "bob isn't permitted meanwhile")
+            third.sendall(packet(ANN, KEY_OF_ONE))
+            require(asks(other, KEY_OF_ONE), "bob isn't permitted beside two logins")
             require(not is_told(talker) and not is_told(third), "a login doesn't wait")
             watched.release()
-            wanted = packet(LET_IN) + packet(PERMITTED, flag=KEPT) * 5
+            wanted = clear(flagged(LET_IN), KEPT_IN_CLEAR) + clear(PERMITTED, KEPT_IN_CLEAR) * 6
             require(answer(talker, b"", len(wanted)) == wanted, "the first isn't let in")
-            require(answer(third, b"", len(packet(LET_IN))) == packet(LET_IN), "the third isn't let in")
+            wanted = packet(LET_IN, KEY_OF_ONE)
+            require(answer(third, b"", len(wanted)) == wanted, "the third isn't let in")
 
 
 def is_gone(device):
