@@ -51,6 +51,7 @@ def cases(name):
         an_operator_who_reads_nothing,
         an_operator_who_reads_slowly,
         who_goes_loses_his_batch,
+        who_types_at_once,
         a_quit_beside_seven_others,
         a_quit_beside_who_reads_nothing,
         nobody_else_may_connect,
@@ -233,6 +234,22 @@ def who_goes_loses_his_batch(program):
         stops(server, ben)
         left = [event["operator"] for event in events(server) if event["console"] == "abandon"]
     require(left == ["anna", None, "carla", None], f"batches are dropped by {left}")
+
+
+def who_types_at_once(program):
+    """Each of eight is answered, by the answers to his own lines: also who still waits for his turn when
+    the last of the others has had his."""
+    none = "starts 0 stops 0 watchdogs 0 updates 0 open 0 elapsed 0 drift 0"
+    with attended(program) as server, contextlib.ExitStack() as stack:
+        several = [stack.enter_context(Operator(server)) for _ in range(8)]
+        for _ in range(10):
+            for number, operator in enumerate(several):
+                operator.stream.sendall(f"tally user u{number}\n".encode() * 4)
+            for number, operator in enumerate(several):
+                for _ in range(4):
+                    came = operator.heard()
+                    require(came == f"tally user u{number} {none}", f"u{number} is told {came!r}")
+        stops(server, several[0])
 
 
 def is_there(server):
