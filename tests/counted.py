@@ -21,7 +21,6 @@ import time
 
 from cases import Case, Check, Outcome, Play, Wrong
 from crowded import LOGINS, is_told
-from generated import asked, given
 from judged import (
     CLOCK_NANOSLEEP,
     CLONE3,
@@ -359,20 +358,28 @@ def devices_that_are_given_up(program):
 
 
 def replies_that_are_not_taken(program):
-    """A device that asks on and on, and reads nothing. Another one has its turns meanwhile."""
-    clock = Clock()
-    more = {"judged": Judged(clock=clock), "policy": given("shell") + "permit show .*\nuser bob in ops\n"}
-    asks = [packet(asked(["service=shell", "cmd="], KEPT, session)) for session in range(1, 401)]
-    with counting(program, "--idle", "60", **more) as (server, operator, status):
-        with open_device(server, status) as device:
-            device.sendall(b"".join(asks))
-            with connect(server) as other:
-                for _ in range(50):
-                    require(is_answered(other, ASK, PERMITTED, flag=KEPT), "another has to wait")
-            many = int(operator.numbers()[named("command PASS_ADD")])
-            require(50 < many < 450, f"{many} are permitted")
-            status.after("another", f"accepted +1, ended finished +1, command PASS_ADD +{many}")
-            clock.passes(60)
+    """There is no room for the second reply to a device. Another one is answered meanwhile."""
+    clock, untaken = Clock(), []
+
+    def judge(call):
+        """The reply is known by its flags and its session."""
+        if call.bytes(1, 8) == packet(PERMITTED, flag=KEPT)[:8]:
+            untaken.append(call)
+            time.sleep(0.01)  # It is tried again at once, since the system knows of no lack of room.
+            return -errno.EAGAIN
+
+    judged = Judged(judge, SENDTO, clock=clock)
+    with counting(program, "--idle", "60", judged=judged) as (server, operator, status):
+        with open_device(server, status, REQUESTS[6][0], changes="command PASS_ADD +1") as device:
+            device.sendall(packet(ASK, flag=KEPT))
+            comes_to(True, lambda: bool(untaken))
+            status.after("a question", "command PASS_ADD +1")
+            require(is_permitted(server), "another has to wait")
+            status.after("another", PERMITS)
+            clock.passes(59)
+            require(is_permitted(server), "another has to wait")
+            status.after("a second less than a minute", PERMITS)
+            clock.passes(1)
             status.after("a minute", "connections -1, ended not_taken +1")
         stops(server, operator)
 
