@@ -796,8 +796,8 @@ def headers_that_are_awaited(program):
             require(is_closed(one_more, LONGEST_WAIT), "a third header is awaited")
         wanted = clear(PERMITTED, KEPT_IN_CLEAR)
         for device in silent:
-            device.sendall(line("127.0.0.1").removeprefix(b"PROXY ") + clear(ASK, KEPT_IN_CLEAR))
-            require(answer(device, b"", len(wanted)) == wanted, "one of two isn't answered")
+            sent = line("127.0.0.1").removeprefix(b"PROXY ") + clear(ASK, KEPT_IN_CLEAR)
+            require(answer(device, sent, len(wanted)) == wanted, "one of two isn't answered")
         server.quits()
 
 
