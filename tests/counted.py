@@ -123,6 +123,7 @@ def cases(name):
         lines_that_are_on_the_disk,
         a_fault_after_an_append,
         a_start_that_fails,
+        workers_that_never_begin,
         no_socket_of_a_console,
         who_may_read_secrets,
     ):
@@ -1054,32 +1055,43 @@ def a_fault_after_an_append(program):
 
 
 def a_start_that_fails(program):
-    """It says why, prints nothing and ends: without threads, after a wait that is short here; without
-    descriptors; and without memory. The log is opened first, and then the port."""
-    made = []
-
-    def judge(call):
-        """All threads but the first one, which tells standard error. A short sleep is over at once."""
-        if call.number == CLOCK_NANOSLEEP:
-            return 0 if call.seconds() < 0.005 else None
-        made.append(call)
-        return -errno.EAGAIN if len(made) > 1 else None
-
+    """It says why, prints nothing and ends: without threads, descriptors or memory. The log is opened
+    first, and then the port."""
     no_thread = "tacd: a thread could not be made\n"
     few = "tacd: there are too few file descriptors for the workers\n"
-    operators = ("--console", "console")
-    for options, judged, said in (
-        ((), Judged(judge, CLONE3, CLOCK_NANOSLEEP), no_thread),
-        (operators, Judged(lambda _: -errno.EAGAIN, CLONE3), no_thread),
-        (operators, Judged(lambda _: -errno.EMFILE, EPOLL_CREATE1), few),
-        (operators, Judged(lambda _: -errno.ENOMEM, EPOLL_CREATE1), "tacd: memory ran out\n"),
+    for number, error, said in (
+        (CLONE3, errno.EAGAIN, no_thread),
+        (EPOLL_CREATE1, errno.EMFILE, few),
+        (EPOLL_CREATE1, errno.ENOMEM, "tacd: memory ran out\n"),
     ):
-        with Server(program, *options, before=judged.begin) as server, judged:
+        judged = Judged(lambda _: -error, number)
+        with Server(program, "--console", "console", before=judged.begin) as server, judged:
             server.ends(complained=said, status=3, is_listening=False)
     with socket.create_server(("0.0.0.0", 0)) as other:
         with Server(program, "--log", "none/log", port=other.getsockname()[1]) as server:
             said = "tacd: none/log: No such file or directory (os error 2)\n"
             server.ends(complained=said, status=4, is_listening=False)
+
+
+def workers_that_never_begin(program):
+    """They are waited for, and the server ends. Sleeps are over at once here, so that takes no time; and
+    so it may end before a thread has said why."""
+    made = []
+
+    def judge(call):
+        """All threads but the first one, which tells standard error."""
+        made.append(call)
+        return -errno.EAGAIN if len(made) > 1 else None
+
+    judged = Judged(judge, CLONE3, quick=[CLOCK_NANOSLEEP])
+    with Server(program, before=judged.begin) as server, judged:
+        try:
+            printed, said = server.process.communicate(timeout=LONGEST_WAIT)
+        except subprocess.TimeoutExpired:
+            raise Wrong("it waits on") from None
+        came = (printed, server.process.returncode)
+        require(came == (b"", 3), f"it ends by {came}")
+        require(said in (b"", b"tacd: a thread could not be made\n"), f"it says {said}")
 
 
 def who_may_read_secrets(program):

@@ -24,7 +24,7 @@ ACCEPT4, EPOLL_CREATE1, CLONE3 = 288, 291, 435
 JUDGES = 4
 # A filter's lines, what they answer, and what is asked of it.
 LOAD, UNLESS, ANSWER = 0x20, 0x15, 0x06
-ALLOWED, TOLD = 0x7FFF0000, 0x7FC00000
+ALLOWED, TOLD, OVER = 0x7FFF0000, 0x7FC00000, 0x00050000
 NO_NEW_PRIVILEGES, SECCOMP, SET_FILTER, NEW_LISTENER = 38, 317, 1, 8
 RECEIVE, SEND, GOES_ON = 0xC0502100, 0xC0182101, 1
 TRACE_ME, DETACH = 0, 17
@@ -87,10 +87,11 @@ class Clock:
 
 class Judged:
     """A process of which these calls are judged. The judge answers none where one is to be made, and
-    else what comes of it: an error where that is negative. With a clock the process has that one."""
+    else what comes of it: an error where that is negative. With a clock the process has that one. Calls
+    that are said to be quick are over at once and well, and nobody judges them."""
 
-    def __init__(self, judge=None, *calls, clock=None):
-        self.judge, self.calls, self.clock = judge, calls, clock
+    def __init__(self, judge=None, *calls, clock=None, quick=()):
+        self.judge, self.calls, self.clock, self.quick = judge, calls, clock, quick
         if clock:
             self.calls = (CLOCK_GETTIME, *calls)
         # Why a call could not be judged, if one couldn't.
@@ -101,9 +102,10 @@ class Judged:
         """In the process, before its program begins."""
         if self.clock and libc.ptrace(TRACE_ME, 0, 0, 0) != 0:
             raise OSError(ctypes.get_errno(), "ptrace")
-        count = len(self.calls)
-        tests = [(UNLESS, count - at, 0, call) for at, call in enumerate(self.calls)]
-        lines = [(LOAD, 0, 0, 0), *tests, (ANSWER, 0, 0, ALLOWED), (ANSWER, 0, 0, TOLD)]
+        all_calls = [*((call, 0) for call in self.calls), *((call, 1) for call in self.quick)]
+        tests = [(UNLESS, len(all_calls) - at + way, 0, it) for at, (it, way) in enumerate(all_calls)]
+        ends = [(ANSWER, 0, 0, ALLOWED), (ANSWER, 0, 0, TOLD), (ANSWER, 0, 0, OVER)]
+        lines = [(LOAD, 0, 0, 0), *tests, *ends]
         code = b"".join(struct.pack("HBBI", *line) for line in lines)
         held = ctypes.create_string_buffer(code, len(code))
         program = struct.pack("HxxxxxxP", len(lines), ctypes.addressof(held))
