@@ -16,7 +16,7 @@ from tac_plus.drawing import configuration, lines
 LEFT_OUT = (
     ": left out", "reading is left out", "is left out and denied", "is denied from here on",
 )
-LONGEST_RUN = 60
+LONGEST_RUN = 300
 # How many configurations are drawn, so many for a case, and how many lines of each are compared.
 DRAWN, TOGETHER, LINES = 40, 5, 60
 

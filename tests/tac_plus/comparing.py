@@ -11,7 +11,7 @@ import subprocess
 from . import remarks
 from .meaning import Meaning
 
-LONGEST_RUN = 120
+LONGEST_RUN = 300
 MOST_BLOCKS = 256
 
 
