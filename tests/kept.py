@@ -200,6 +200,7 @@ def killed_at(program, path, last, line):
         made.extend([done] * (not done.startswith("answer")))
         if len(made) == last:
             server.process.kill()
+            server.process.wait()  # so that the call isn't made
 
     keeper = Keeper(path)
     with keeper.keeping(program) as (server, operator):

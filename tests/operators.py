@@ -364,6 +364,7 @@ def what_a_killed_server_left(program):
                 made.extend([call.number] * is_its_own)
                 if is_its_own and len(made) == last:
                     server.process.kill()
+                    server.process.wait()  # so that the call isn't made
 
             system = Judged(judge, *calls)
             with Server(program, "--console", place, before=system.begin) as server, system:
