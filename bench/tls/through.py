@@ -375,6 +375,9 @@ def try_sessions(trial):
                 differ.append(f"{what}, flags {flags}: {inside} and {outside}")
             wanted.append((session, address, told))
             numbers.told(told, 2)
+            if told == "bad body":
+                # the one under a key, as packets under another one have such bodies
+                numbers.add("connections_other_key_total")
     numbers.served(4 * len(SESSIONS))
     trial.judge(f"of {len(wanted)} sessions, answered otherwise than under a key", differ, [])
     numbers.judge("after them")
