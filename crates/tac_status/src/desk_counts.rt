@@ -1,5 +1,8 @@
 //! What a desk has, and how often it was changed.
 
+ghost use Rattle.std.specs.Prelude.{◌≡◌, ◌-◌, ◌^◌, min};
+ghost use Rattle.tac_status.specs.Counting as counting;
+
 use crate::counts::Count;
 use pol_text::Policy;
 
@@ -13,10 +16,12 @@ pub struct DeskCounts {
     reloads: Count,
 }
 
-// How many rules a policy has.
-fn rules_of(policy: &Policy) -> u64 {
+// How many rules a policy has, as far as 64 bits count.
+fn rules_of(policy: &Policy) -> u64
+    ensures { result ≡ min (counting.rules_of policy.now) (2 ^ 64 - 1) }
+{
     let mut rules = 0_u64;
-    for subject in policy.subjects() {
+    'subjects: for subject in policy.subjects() {
         rules = rules.saturating_add(subject.rules.len() as u64);
     }
     rules

@@ -1,5 +1,8 @@
 //! What devices ask for, by what they are answered.
 
+ghost use Rattle.std.specs.Prelude.{◌≡◌};
+ghost use Rattle.tac_status.specs.Counting as counting;
+
 use crate::counts::Count;
 use tac_audit::Notice;
 use tac_authen::{AuthenReply, AuthenStatus};
@@ -66,7 +69,9 @@ impl Request {
 }
 
 // A login at its last reply; none while it goes on.
-fn login_of(reply: &AuthenReply) -> Option<Request> {
+fn login_of(reply: &AuthenReply) -> Option<Request>
+    ensures { result ≡ counting.login_as reply.now }
+{
     match reply.status {
         AuthenStatus::PASS => Some(Request::LoginPass),
         AuthenStatus::FAIL => Some(Request::LoginFail),
@@ -76,7 +81,9 @@ fn login_of(reply: &AuthenReply) -> Option<Request> {
     }
 }
 
-fn command_of(reply: &AuthorReply) -> Request {
+fn command_of(reply: &AuthorReply) -> Request
+    ensures { result ≡ counting.command_as reply.now }
+{
     match reply.status {
         AuthorStatus::PASS_ADD => Request::CommandPassAdd,
         AuthorStatus::FAIL => Request::CommandFail,
@@ -85,7 +92,9 @@ fn command_of(reply: &AuthorReply) -> Request {
     }
 }
 
-fn account_of(reply: &AcctReply) -> Request {
+fn account_of(reply: &AcctReply) -> Request
+    ensures { result ≡ counting.account_as reply.now }
+{
     match reply.status {
         AcctStatus::SUCCESS => Request::AccountSuccess,
         _ if reply.msg.as_slice() == BAD_BODY => Request::BadBody,
@@ -93,7 +102,9 @@ fn account_of(reply: &AcctReply) -> Request {
     }
 }
 
-fn answered_by(reply: &Reply) -> Option<Request> {
+fn answered_by(reply: &Reply) -> Option<Request>
+    ensures { result ≡ counting.answered_as reply.now.body }
+{
     match &reply.body {
         ReplyBody::Authentication(reply) => login_of(reply),
         ReplyBody::Authorisation(reply) => Some(command_of(reply)),
@@ -104,7 +115,9 @@ fn answered_by(reply: &Reply) -> Option<Request> {
 
 impl Request {
     /// What a witness of a connection is told of; none of a question for a name or a password.
-    pub fn of(notice: &Notice) -> Option<Request> {
+    pub fn of(notice: &Notice) -> Option<Request>
+        ensures { result ≡ counting.counted_as notice.now }
+    {
         match notice {
             Notice::Packet(_, Some(reply)) => answered_by(reply),
             Notice::Packet(_, None) => Some(Request::Unanswered),
