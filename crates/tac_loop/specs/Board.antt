@@ -1,7 +1,7 @@
 -- What a caller did that many connections share, and how each of these stands.
 use Rattle.std.specs.Prelude.{◌≡◌, ◌≢◌, ◌⊎◌, ◌<◌, ◌+◌, ℕ, List, [], ◌∷◌, ◌++◌, map, All}
 use Rattle.std.specs.Prelude.{Contains, Option, Some, None, slice_index_or}
-use Rattle.std.specs.Prelude.{slice_set}
+use Rattle.std.specs.Prelude.{slice_set, Bool, false, ◌==◌}
 use Rattle.tac_wire.specs.declared.door.Door.{Door}
 use Rattle.tac_conn.specs.declared.ask.Ask.{Ask}
 use Rattle.tac_audit.specs.declared.notice.Notice.{Notice}
@@ -38,6 +38,11 @@ module _ {C V S : Type 0} where
   -- the connection that is served under this key
   abbrev pub at : List (Option (Line C V S)) → ℕ → Option (Line C V S)
   at lines key = slice_index_or lines key None
+
+  -- a connection is served, and has this number
+  abbrev pub is_numbered : ℕ → Option (Line C V S) → Bool
+  is_numbered number None = false
+  is_numbered number (Some line) = line.number == number
 
   -- each connection, whether it is served or was removed, is so
   abbrev pub AreAll : (Line C V S → Type 0) → Board C V S → Type 0

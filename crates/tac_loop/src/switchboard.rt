@@ -1,7 +1,7 @@
 //! One caller that many connections share.
 
 ghost use Rattle.std.specs.Prelude.{◌≡◌, Some, None, count_by, is_some, option_copied};
-ghost use Rattle.std.specs.Prelude.{IfOk, IfErr, OnErr};
+ghost use Rattle.std.specs.Prelude.{IfOk, IfErr, OnErr, IfSome, true};
 ghost use Rattle.slab.specs.Slab.{entries_from};
 ghost use Rattle.tac_loop.specs.Board as board;
 
@@ -148,7 +148,9 @@ impl<'a, C: Steady, V: Witness<Notice>, S: Read + Write + Drop> Switchboard<'a, 
         key: usize,
         alloc: Global,
     ) -> Result<Option<(u64, HashWork)>, AllocError>
-        ensures { self.new ≡ self.old }
+        ensures unseen { self.new ≡ self.old }
+        ensures whose { IfOk result (λ work. IfSome work (λ handed.
+            board.is_numbered handed.0 (board.at self.old.lines key) ≡ true)) }
     {
         let Some(line) = self.lines.get_mut(key) else {
             return Ok(None);
@@ -163,7 +165,8 @@ impl<'a, C: Steady, V: Witness<Notice>, S: Read + Write + Drop> Switchboard<'a, 
     /// What was worked out for the connection of this key and number, which goes on by it. The
     /// answer is false where that connection was removed.
     pub fn adopt(&mut self, key: usize, number: u64, worked_out: Typed) -> bool
-        ensures { self.new ≡ self.old }
+        ensures unseen { self.new ≡ self.old }
+        ensures whose { result ≡ board.is_numbered number (board.at self.old.lines key) }
     {
         let Some(line) = self.lines.get_mut(key) else {
             return false;

@@ -1,5 +1,5 @@
-use Rattle.std.proofs.Common.{◌≡◌, Some, Option, List, refl, sym, ap, subst, rules}
-use Rattle.tac_loop.specs.Board.{at, IsWorking}
+use Rattle.std.proofs.Common.{◌≡◌, Some, rules}
+use Rattle.tac_loop.specs.Board.{at}
 use Rattle.tac_loop.specs.Boarding.{board_of}
 use Rattle.tac_loop.proofs.BoardFacts.{set_same}
 use Rattle.tac_loop.proofs.switchboard.Switchboard.take_work.Goals as goal
