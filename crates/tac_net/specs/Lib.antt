@@ -13,3 +13,5 @@ pub mod Pause
 pub mod Filling
 pub mod Witness
 pub mod Standing
+pub mod Fates
+pub mod Shares

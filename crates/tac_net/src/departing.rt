@@ -1,5 +1,8 @@
 //! Why a connection ends, as it is counted.
 
+ghost use Rattle.std.specs.Prelude.{◌≡◌, is_some};
+ghost use Rattle.tac_net.specs.Fates as fates;
+
 use crate::socket::Socket;
 use std::time::Clock;
 use tac_loop::Stop;
@@ -22,7 +25,9 @@ pub(crate) enum Parting {
 }
 
 // Why one is counted that ended so on this socket.
-fn by_end<S, C: Clock>(end: End, socket: &Socket<'_, S, C>) -> Departure {
+fn by_end<S, C: Clock>(end: End, socket: &Socket<'_, S, C>) -> Departure
+    ensures { result ≡ fates.ended_as socket.now.share.lacks end }
+{
     match end {
         End::Finished => Departure::Finished,
         End::ByProtocol => Departure::Protocol,
@@ -36,7 +41,10 @@ fn by_end<S, C: Clock>(end: End, socket: &Socket<'_, S, C>) -> Departure {
 }
 
 /// Why a connection is counted that a worker lets go of so.
-pub(crate) fn departure<S, C: Clock>(parting: Parting, socket: &Socket<'_, S, C>) -> Departure {
+pub(crate) fn departure<S, C: Clock>(parting: Parting, socket: &Socket<'_, S, C>) -> Departure
+    ensures { result ≡ fates.departs_as parting socket.now.share.lacks
+        (is_some socket.now.patience.waits) }
+{
     match parting {
         Parting::Left(Stop::Ended(end)) => by_end(end, socket),
         Parting::Left(Stop::Broken) => Departure::Write,

@@ -1,5 +1,8 @@
 //! Where new connections go.
 
+ghost use Rattle.std.specs.Prelude.{◌≡◌};
+ghost use Rattle.tac_net.specs.Fates as fates;
+
 use crate::misfits::Misfits;
 use crate::packet_memory::PacketMemory;
 use crate::peer::Peer;
@@ -71,6 +74,17 @@ impl Drop for Intake {
             misfits: _,
             left: _,
         } = self;
+    }
+}
+
+// As what a connection is counted that isn't taken.
+fn crowded(refusal: Refusal) -> Rejection
+    ensures { result ≡ fates.crowded_as refusal }
+{
+    match refusal {
+        Refusal::Full => Rejection::AtOnce,
+        Refusal::AddressFull => Rejection::PerAddress,
+        Refusal::Memory => Rejection::Memory,
     }
 }
 
@@ -207,9 +221,7 @@ impl Intake {
         };
         match take(rt, &self.census).admit(address, most) {
             Ok(()) => Ok((at, inbox)),
-            Err(Refusal::Full) => Err(Rejection::AtOnce),
-            Err(Refusal::AddressFull) => Err(Rejection::PerAddress),
-            Err(Refusal::Memory) => Err(Rejection::Memory),
+            Err(refusal) => Err(crowded(refusal)),
         }
     }
 

@@ -1,5 +1,8 @@
 //! The memory for packets that aren't answered yet.
 
+ghost use Rattle.std.specs.Prelude.{◌≡◌, ◌≤◌, ◌+◌, false, not, ◌||◌, IsTrue};
+ghost use Rattle.tac_net.specs.Shares as shares;
+
 use std::sync::atomic::{AtomicU64, Ordering};
 
 /// How many bytes a connection holds without a part of the packet memory.
@@ -24,8 +27,8 @@ impl PacketMemory {
 
     // Takes so many bytes, or none where so many aren't left.
     fn take(&self, bytes: u64) -> bool {
-        let before = self.taken.fetch_add(bytes, Ordering::SeqCst);
-        if before.saturating_add(bytes) <= self.most {
+        let taken = self.taken.fetch_add(bytes, Ordering::SeqCst);
+        if fits(taken, bytes, self.most) {
             return true;
         }
         self.give_back(bytes);
@@ -37,8 +40,17 @@ impl PacketMemory {
     }
 }
 
+// Whether so many bytes fit beside those that are taken, where there may be so many.
+fn fits(taken: u64, bytes: u64, most: u64) -> bool
+    ensures { result ≡ shares.fits taken bytes most }
+{
+    taken <= most && bytes <= most - taken
+}
+
 // How many of so many bytes are taken from the packet memory.
-fn beyond_free(held: u64) -> u64 {
+fn beyond_free(held: u64) -> u64
+    ensures { result ≡ shares.counted held }
+{
     held.saturating_sub(FREE)
 }
 
@@ -52,7 +64,10 @@ pub struct PacketShare<'a> {
 
 impl<'a> PacketShare<'a> {
     /// Nothing.
-    pub fn new(memory: &'a PacketMemory) -> PacketShare<'a> {
+    pub fn new(memory: &'a PacketMemory) -> PacketShare<'a>
+        ensures held { result.held ≡ 0 }
+        ensures lacks { result.lacks ≡ false }
+    {
         PacketShare {
             memory,
             held: 0,
@@ -61,7 +76,11 @@ impl<'a> PacketShare<'a> {
     }
 
     /// So many bytes more. The answer is whether there was memory for them; else it stays as it is.
-    pub fn grow(&mut self, bytes: usize) -> bool {
+    pub fn grow(&mut self, bytes: usize) -> bool
+        ensures held { self.new.held ≡ shares.grown result self.old.held bytes }
+        ensures lacks { self.new.lacks ≡ (self.old.lacks || not result) }
+        ensures free { self.old.held + bytes ≤ 4096 → IsTrue result }
+    {
         let held = self.held.saturating_add(bytes as u64);
         let more = beyond_free(held).saturating_sub(beyond_free(self.held));
         if more > 0 && !self.memory.take(more) {
@@ -73,12 +92,16 @@ impl<'a> PacketShare<'a> {
     }
 
     /// Whether there was once no memory for more.
-    pub fn lacks(&self) -> bool {
+    pub fn lacks(&self) -> bool
+        ensures { result ≡ self.now.lacks }
+    {
         self.lacks
     }
 
     /// Nothing any more.
-    pub fn clear(&mut self) {
+    pub fn clear(&mut self)
+        ensures { self.new ≡ record self.old { held = 0 } }
+    {
         let taken = beyond_free(self.held);
         if taken > 0 {
             self.memory.give_back(taken);

@@ -1,5 +1,8 @@
 //! Connections that are closed as soon as they come.
 
+ghost use Rattle.std.specs.Prelude.{◌≡◌};
+ghost use Rattle.tac_net.specs.Fates as fates;
+
 use crate::callers::TurnedDown;
 use crate::hush::{COMPLAINT_PAUSE, Hush};
 use crate::premises::Premises;
@@ -110,7 +113,9 @@ where
 }
 
 // What is counted of connections that are refused for this reason.
-fn rejection(why: WhyTurnedAway) -> Rejection {
+fn rejection(why: WhyTurnedAway) -> Rejection
+    ensures { result ≡ fates.refused_as why }
+{
     match why {
         WhyTurnedAway::UnknownDevice => Rejection::UnknownDevice,
         WhyTurnedAway::NoKey => Rejection::NoKey,
