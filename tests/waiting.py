@@ -17,6 +17,7 @@ import typing
 
 from cases import Case, Check, Outcome, Play
 from crowded import FAILED, LET_IN, LOGINS, is_told
+from generated import asked, given
 from judged import EPOLL_CTL, FUTEX, GOES_ON, RECEIVE, RECVFROM, SEND, SENDTO, SETSOCKOPT, WRITE, Judged
 from operated import starts
 from proxied import KEPT_IN_CLEAR, called, clear, flagged, line
@@ -86,6 +87,7 @@ def cases(name):
         who_is_given_up,
         a_reply_that_is_held_back,
         a_reply_that_finds_no_room,
+        a_reply_that_is_not_taken,
         a_reply_that_cannot_be_sent,
         replies_go_at_once,
         what_a_request_costs,
@@ -656,6 +658,22 @@ def a_reply_that_finds_no_room(program):
             require(answer(device, b"", len(wanted)) == wanted, "the reply isn't sent on a new one")
         require(len(watched.failed) == 4, "there was room")
         server.quits()
+
+
+def a_reply_that_is_not_taken(program):
+    """While a device takes no reply its worker rests, though more that it asks has come."""
+    policy = given("shell") + "permit show .*\nuser bob in ops\n"
+    asks_for_all = [packet(asked(["service=shell", "cmd="], KEPT, number)) for number in range(1, 1001)]
+    options = ("--workers", "1", "--idle", "1")
+    with watched_server(program, (EPOLL_WAIT, CLOSE), *options, policy=policy) as (watched, server):
+        with connect(server) as device:
+            require(asks(device), "bob isn't permitted")
+            began = len(watched.told)
+            device.sendall(b"".join(asks_for_all))
+            # until it is given up, since its replies aren't taken
+            watched.until(lambda calls: any(map(of(CLOSE), calls[began:])), "it is kept")
+            waits = counted(watched.told[began:], of(EPOLL_WAIT))
+            require(waits < 200, f"its worker waits {waits} times until it is given up")
 
 
 def a_reply_that_cannot_be_sent(program):

@@ -71,9 +71,9 @@ pub(crate) fn greeting_of(key: usize) -> Option<usize> {
 }
 
 // What a wait is to tell of a socket, which waits for room to write or not.
-fn interests(is_full: bool) -> Interest {
+fn interest(is_full: bool) -> Interest {
     if is_full {
-        Interest::READABLE | Interest::WRITABLE
+        Interest::WRITABLE
     } else {
         Interest::READABLE
     }
@@ -101,8 +101,8 @@ impl Poller {
         self.registry().register(listener, key, Interest::READABLE)
     }
 
-    /// From now on a wait tells, by this key, when this socket may be read, and when it may be
-    /// written where it waits for that.
+    /// From now on a wait tells, by this key, when this socket may be read, or, where it waits for
+    /// room to write, when it may be written.
     pub(crate) fn register<S: AsRawFd>(
         &self,
         socket: &S,
@@ -111,7 +111,7 @@ impl Poller {
     ) -> io::Result<()> {
         let descriptor = socket.as_raw_fd();
         self.registry()
-            .register(&mut SourceFd(&descriptor), Token(key), interests(is_full))
+            .register(&mut SourceFd(&descriptor), Token(key), interest(is_full))
     }
 
     /// The same of a socket that is registered, whatever its key was.
@@ -123,7 +123,7 @@ impl Poller {
     ) -> io::Result<()> {
         let descriptor = socket.as_raw_fd();
         self.registry()
-            .reregister(&mut SourceFd(&descriptor), Token(key), interests(is_full))
+            .reregister(&mut SourceFd(&descriptor), Token(key), interest(is_full))
     }
 
     /// From now on a wait tells nothing of this socket.

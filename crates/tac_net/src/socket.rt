@@ -1,12 +1,13 @@
 //! The socket of a device.
 
-ghost use Rattle.std.specs.Prelude.{◌≤◌, length};
+ghost use Rattle.std.specs.Prelude.{◌≡◌, ◌≤◌, length, is_some};
 
 use crate::delay::Delay;
 use crate::lead::Lead;
 use crate::packet_memory::PacketShare;
 use crate::patience::{Idle, Patience};
 use crate::visits::Visits;
+use std::cell::Cell;
 use std::io::{self, ErrorKind, Read, Write};
 use std::net::IpAddr;
 use std::time::Clock;
@@ -35,6 +36,8 @@ pub struct Socket<'a, S, C> {
     drained: Option<u64>,
     // what was read already, and is read again before anything else
     begun: Vec<u8>,
+    // whether a wait is to tell of room to write, and of nothing else
+    awaits_room: Cell<bool>,
 }
 
 // The present time in milliseconds, where the clock can be read.
@@ -73,6 +76,7 @@ impl<'a, S, C: Clock> Socket<'a, S, C> {
             visits,
             drained: None,
             begun,
+            awaits_room: Cell::new(false),
         }
     }
 
@@ -92,12 +96,16 @@ impl<'a, S, C: Clock> Socket<'a, S, C> {
     }
 
     /// Whether a read found no packet memory.
-    pub fn lacks_memory(&self) -> bool {
+    pub fn lacks_memory(&self) -> bool
+        ensures { result ≡ self.now.share.lacks }
+    {
         self.share.lacks()
     }
 
     /// Whether a reply waits to be taken.
-    pub fn has_untaken(&self) -> bool {
+    pub fn has_untaken(&self) -> bool
+        ensures { result ≡ is_some self.now.patience.waits }
+    {
         self.patience.has_untaken()
     }
 
@@ -105,6 +113,16 @@ impl<'a, S, C: Clock> Socket<'a, S, C> {
     /// not. While a reply is held back it isn't.
     pub fn is_over(&self, idle: Idle, asks: bool, now: Option<u64>) -> bool {
         !self.delay.is_held(now) && self.patience.is_over(idle, asks, now)
+    }
+
+    /// Whether a wait is to tell of room to write, and of nothing else.
+    pub fn awaits_room(&self) -> bool {
+        self.awaits_room.get()
+    }
+
+    /// From now on a wait tells of room to write, or of what came.
+    pub fn await_room(&self, awaits: bool) {
+        self.awaits_room.set(awaits);
     }
 
     /// Whether a reply is held back.

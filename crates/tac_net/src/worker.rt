@@ -282,15 +282,16 @@ where
         }
     }
 
-    // From now on a wait tells when a connection may be read, and also when it may be written where
-    // it waits for that. A lead's was registered under another key. Where the system refuses it,
-    // the connection is over.
+    // From now on a wait tells when a connection may be read, or, where it waits for room to write,
+    // when it may be written. A lead's was registered under another key. Where the system refuses
+    // it, the connection is over.
     fn register(&mut self, poller: &Poller, key: usize, was_lead: bool, is_full: bool)
         ensures { self.new ≡ self.old }
     {
         let Some(line) = self.board.get(key) else {
             return;
         };
+        line.socket().await_room(is_full);
         let stream = line.socket().stream();
         let registered = if was_lead {
             poller.register_again(stream, key, is_full)
@@ -302,13 +303,22 @@ where
         }
     }
 
-    // Serves a connection that is registered. Where it then waits for room to write, a wait is to
-    // tell of that too.
+    // Whether a wait is to tell of room to write on a connection, and of nothing else.
+    fn awaits_room(&self, key: usize) -> bool {
+        match self.board.get(key) {
+            Some(line) => line.socket().awaits_room(),
+            None => false,
+        }
+    }
+
+    // Serves a connection that is registered. While it waits for room to write, a wait tells of that
+    // alone, since the packets that come aren't read before.
     fn serve(&mut self, poller: &Poller, key: usize)
         ensures { self.new ≡ self.old }
     {
-        if self.go(key) {
-            self.register(poller, key, true, true);
+        let is_full = self.go(key);
+        if is_full || self.awaits_room(key) {
+            self.register(poller, key, true, is_full);
         }
     }
 
