@@ -1,7 +1,7 @@
 -- What a server begins with: its workers, and the desk of its policy, or what is printed where
 -- there is none.
-use Rattle.std.specs.Prelude.{◌≡◌, ℕ, ◌-◌, min, max, List, [], Bool, true, false, Option, Some, None}
-use Rattle.std.specs.Prelude.{Result, Ok, Err}
+use Rattle.std.specs.Prelude.{◌≡◌, ℕ, ◌-◌, ◌*◌, ◌^◌, min, max, List, [], Bool, true, false}
+use Rattle.std.specs.Prelude.{Option, Some, None, Result, Ok, Err}
 use Rattle.pol_text.specs.declared.subject.Subject.{Subject}
 use Rattle.pol_live.specs.declared.judging.TextRefusal.{TextRefusal}
 use Rattle.tac_tally.specs.Keeping.{refusing, forgetting}
@@ -26,6 +26,10 @@ workers None false processors = max 1 (min 16 processors)
 -- as many threads work passwords out as there are processors but one, at least one and at most four
 abbrev pub hashers : ℕ → ℕ
 hashers processors = max 1 (min 4 (processors - 1))
+
+-- the bytes of so many megabytes, of which each has 2^20
+abbrev pub megabytes : ℕ → ℕ
+megabytes count = count * 2 ^ 20
 
 -- a policy that may stand has a desk that keeps records by this limit, and nothing is printed; of a
 -- text that is refused, why is printed, as its check prints it

@@ -1,5 +1,7 @@
 //! How the server is, as its operators are told.
 
+ghost use Rattle.std.specs.Prelude.{◌≡◌, is_some};
+
 use crate::command_line::VERSION;
 use crate::options::Options;
 use basics::Bytes;
@@ -38,7 +40,13 @@ impl<'a, H: Clock> Condition<'a, H> {
         host: &'a H,
         options: &'a Options<'_>,
         journal: &'a Option<Journal<'a>>,
-    ) -> Condition<'a, H> {
+    ) -> Condition<'a, H>
+        ensures workers { result.workers ≡ options.now.settings.workers }
+        ensures connections { result.connections_limit ≡ options.now.settings.connections_at_once }
+        ensures records { result.records_limit ≡ options.now.record_limit.most }
+        ensures proxy { result.has_proxy ≡ is_some options.now.proxy }
+        ensures edits { result.keeps_edits ≡ is_some options.now.kept }
+    {
         Condition {
             host,
             counts: &options.counts,

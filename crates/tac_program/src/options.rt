@@ -44,6 +44,13 @@ const MOST_WORKERS: usize = 16;
 /// The bytes of a megabyte.
 const MEGABYTE: u64 = 1_048_576;
 
+// So many megabytes, in bytes.
+fn megabytes(count: u32) -> u64
+    ensures { result ≡ opening.megabytes count }
+{
+    u64::from(count) * MEGABYTE
+}
+
 /// How to serve, where, and by what.
 #[derive(Drop)]
 pub(crate) struct Options<'a> {
@@ -235,7 +242,7 @@ fn settings_of(
         connections: matches.get_one::<u32>(CONNECTIONS)?,
         connections_at_once: matches.get_one::<u32>(CONNECTIONS_AT_ONCE)?,
         per_address: matches.get_one::<u32>(PER_ADDRESS)?,
-        packet_memory: u64::from(matches.get_one::<u32>(PACKET_MEMORY)?) * MEGABYTE,
+        packet_memory: megabytes(matches.get_one::<u32>(PACKET_MEMORY)?),
         idle: Idle {
             idle: matches.get_one::<u32>(IDLE)?,
             login: matches.get_one::<u32>(LOGIN_IDLE)?,
