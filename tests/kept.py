@@ -159,8 +159,7 @@ def a_disk_that_refuses(program):
             tells_kept(operator, "0")
             more = f"{lines}user u{number}\n"
             require(kept.read_text() == (more if is_there else lines), f"after {done} it isn't as before")
-            is_left = (path / DRAFT).exists() and not done.startswith("rename")
-            require(not is_left, f"after {done} a draft takes room")
+            require(not (path / DRAFT).exists(), f"after {done} a draft takes room")
             told(operator, ("why bob show run", PERMITTED))
             tells_kept(operator, "1")
             lines = more

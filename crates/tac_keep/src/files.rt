@@ -178,12 +178,15 @@ fn make_file<R: Files>(rt: &R, path: &str, bytes: &[u8]) -> io::Result<()> {
 }
 
 fn replace_file<R: Files>(rt: &R, path: &str, draft: &str, bytes: &[u8]) -> io::Result<()> {
-    if let Err(error) = make_file(rt, draft, bytes) {
-        // room for uses, since it mostly fails by a full disk
+    let placed = match make_file(rt, draft, bytes) {
+        Ok(()) => fs::rename(rt, draft, path),
+        Err(error) => Err(error),
+    };
+    if let Err(error) = placed {
+        // it has the policy's secrets, and takes the room that a full disk lacks
         let _ = fs::remove_file(rt, draft);
         return Err(error);
     }
-    fs::rename(rt, draft, path)?;
     sync_folder(rt, path)
 }
 
