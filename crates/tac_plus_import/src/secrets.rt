@@ -36,14 +36,15 @@ fn are_same(one: &Password, other: &Password) -> bool {
 
 // What is told of a password beside the one that the subject logs in with.
 fn other_finding(password: &Password, login: &Password) -> Option<What> {
-    if login.line == password.line && login.purpose == password.purpose {
+    let is_there = login.line == password.line && login.purpose == password.purpose;
+    if is_there && are_same(login, password) {
         return match password.purpose {
             Purpose::Login | Purpose::Global => None,
             _ => Some(What::IS_LOGIN),
         };
     }
     match password.purpose {
-        Purpose::Arap | Purpose::OutboundPap => Some(What::OTHER_PASSWORD),
+        Purpose::Arap | Purpose::MsChap | Purpose::OutboundPap => Some(What::OTHER_PASSWORD),
         _ if are_same(login, password) => None,
         _ => Some(What::OTHER_PASSWORD),
     }
