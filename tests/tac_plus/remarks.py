@@ -71,7 +71,7 @@ def passwords(meaning, subject, chain):
         elif it is login:
             if it.purpose not in LOGINS[:2]:
                 yield it.line, "is the login here"
-        elif not login or it.purpose in ("arap", "opap") or not it.is_same(login):
+        elif not login or it.purpose in ("arap", "ms-chap", "opap") or not it.is_same(login):
             yield it.line, "isn't the login"
 
 
