@@ -6,6 +6,6 @@ mod console;
 #[cfg(test)]
 mod hall;
 #[cfg(test)]
-mod operators;
+mod status;
 #[cfg(test)]
 mod work;

@@ -4,7 +4,7 @@ use std::alloc::Global;
 use std::test::Fail;
 use tac_status::{Counts, Departure, Present, Rejection, resident_bytes, status_text};
 
-fn present(has_proxy: bool) -> Present {
+fn present() -> Present {
     Present {
         version: "1.2.3",
         uptime: 4,
@@ -12,7 +12,7 @@ fn present(has_proxy: bool) -> Present {
         workers: 6,
         connections_limit: 7,
         devices: 8,
-        has_proxy,
+        has_proxy: false,
         records_limit: 9,
         has_log: true,
         log_takes_lines: false,
@@ -151,41 +151,8 @@ fn is_told(text: &[u8], wanted: &str) -> bool {
 // Each fate is counted under its own name.
 #[test]
 fn all_lines_are_told(rt: HostRuntime) -> Result<(), Fail> {
-    let text = status_text(rt.alloc(), &counts(), &present(false))?;
+    let text = status_text(rt.alloc(), &counts(), &present())?;
     assert!(rt; is_told(text.as_slice(), TOLD));
-    Ok(())
-}
-
-const OF_PROXIES: [&str; 5] = [
-    "\"no_key\"",
-    "\"no_tls\"",
-    "\"no_certificate\"",
-    "\"other_certificate\"",
-    "\"bad_proxy_header\"",
-];
-
-// How many of the refusals of proxies are among the lines.
-fn told_of_proxies(alloc: Global, counts: &Counts, has_proxy: bool) -> Result<u32, Fail> {
-    let text = status_text(alloc, counts, &present(has_proxy))?;
-    let text = str::from_utf8(text.as_slice())?;
-    let mut many = 0_u32;
-    for why in OF_PROXIES {
-        if text.contains(why) {
-            many = many.saturating_add(1);
-        }
-    }
-    Ok(many)
-}
-
-// They are where there is a socket for a proxy, or where one of them isn't 0.
-#[test]
-fn refusals_of_proxies(rt: HostRuntime) -> Result<(), Fail> {
-    let (alloc, counts) = (rt.alloc(), Counts::new());
-    let without = told_of_proxies(alloc, &counts, false)?;
-    let with = told_of_proxies(alloc, &counts, true)?;
-    counts.connections.reject(Rejection::NoCertificate);
-    let met = told_of_proxies(alloc, &counts, false)?;
-    assert!(rt; [without, with, met] == [0, 5, 5]);
     Ok(())
 }
 
