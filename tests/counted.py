@@ -10,7 +10,6 @@ import os
 import pathlib
 import re
 import resource
-import select
 import signal
 import socket
 import struct
@@ -50,6 +49,7 @@ from served import (
     is_closed,
     is_permitted,
     packet,
+    ready,
     require,
 )
 
@@ -511,7 +511,7 @@ def says(server, wanted):
     """That is what standard error says next."""
     stream, came, until = server.process.stderr.fileno(), b"", time.monotonic() + LONGEST_WAIT
     while len(came) < len(wanted) and time.monotonic() < until:
-        if select.select([stream], [], [], 0.1)[0]:
+        if ready([stream], 0.1):
             came += (more := os.read(stream, len(wanted) - len(came)))
             require(more, f"it ends, and has said {came}")
     require(came == wanted.encode(), f"it says {came}, not {wanted!r}")

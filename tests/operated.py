@@ -7,7 +7,6 @@ import errno
 import json
 import os
 import pathlib
-import select
 import signal
 import socket
 import subprocess
@@ -34,6 +33,7 @@ from served import (
     connect,
     is_answered,
     packet,
+    ready,
     require,
     typed,
     types,
@@ -732,7 +732,7 @@ def logged_before_it_is_answered(program):
 
     def judge(call):
         if call == FDATASYNC:
-            early.append(bool(select.select([server.process.stdout], [], [], 0.05)[0]))
+            early.append(bool(ready([server.process.stdout], 0.05)))
 
     supervised = Supervised(judge)
     options = ("--log", "log", "--sync")
@@ -958,7 +958,7 @@ def a_busy_console(program):
                 require(second.numbers()["tacd_operators"] == "2", "there aren't two")
                 require("rotate" in second.ask("help"), "there is no help")
                 second.type("why bob ping")
-                waits = not select.select([first.stream, second.stream], [], [], 0.2)[0]
+                waits = not ready([first.stream, second.stream], 0.2)
                 require(waits, "it isn't busy")
                 file.write("group ops\npermit ping\nuser bob in ops\n")
             wanted = "ok\nuser bob now permits: ping\nuser bob now denies: show "

@@ -13,6 +13,7 @@ import pathlib
 import random
 import re
 import resource
+import select
 import socket
 import stat
 import struct
@@ -95,6 +96,16 @@ def cases(name):
     ):
         expected = Outcome(b"", b"", 0)
         yield Case(f"{name}: {play.__name__}", [Check(Play(play), expected, "its devices called")])
+
+
+def ready(streams, seconds):
+    """Those of these streams, or of their numbers, that may be read or are at their end, as soon as one is, and
+    none once so many seconds are over."""
+    by_number = {it if isinstance(it, int) else it.fileno(): it for it in streams}
+    poll = select.poll()  # since select itself takes no number over 1,023
+    for number in by_number:
+        poll.register(number, select.POLLIN)
+    return [by_number[number] for number, _ in poll.poll(1000 * seconds)]
 
 
 def require(holds, why):

@@ -7,7 +7,6 @@ import errno
 import fcntl
 import os
 import pathlib
-import select
 import shutil
 import socket
 import time
@@ -34,6 +33,7 @@ from served import (
     is_closed,
     is_permitted,
     packet,
+    ready,
     require,
 )
 
@@ -139,7 +139,7 @@ def comes_to_an_end(devices):
     """Whether one of these connections is closed soon. Of each of the others nothing is read."""
     until = time.monotonic() + SOON
     while time.monotonic() < until:
-        for device in select.select(devices, [], [], 0.1)[0]:
+        for device in ready(devices, 0.1):
             with contextlib.suppress(ConnectionError):
                 if device.recv(1, socket.MSG_PEEK):
                     continue
