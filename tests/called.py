@@ -457,11 +457,12 @@ def failed_logins_are_held_back(program):
             require(0.9 <= took < 2, f"a wrong login takes {took}")
             took = seconds(device, RIGHT, PASSED, flag=KEPT, id=3)
             require(took < 0.9, f"a right login after it takes {took}")
-        with connect(server) as guesser, contextlib.ExitStack() as stack:
+        with contextlib.ExitStack() as stack:
             guesses = b"".join(packet(WRONG, flag=KEPT, id=number) for number in (1, 2, 3))
             wanted = b"".join(packet(FAILED, flag=KEPT, id=number) for number in (1, 2, 3))
             for _ in range(50):
                 stack.enter_context(connect(server)).sendall(packet(WRONG, flag=KEPT, id=1))
+            guesser = stack.enter_context(connect(server))
             came = []
             thread = threading.Thread(target=lambda: came.append(answer(guesser, guesses, len(wanted))))
             began = time.monotonic()

@@ -402,8 +402,8 @@ def at_each_address(program):
 
 def at_an_address(program):
     """The first line names it. The port may be another's at each other address."""
-    with socket.create_server(("127.0.0.1", 0)) as other:
-        port = other.getsockname()[1]
+    port = free_port()
+    with socket.create_server(("127.0.0.1", port)):
         options = ("--address", "127.0.0.2", "--workers", "1")
         with Server(program, *options, host="127.0.0.2", port=port) as server:
             asks_ten_times(server)
