@@ -257,12 +257,16 @@ class Supervised:
         return 0, -error, 0 if error else self.GOES_ON
 
 
+# In an order of this run's own, so that no two cases are given one.
+PORTS = itertools.cycle(random.sample(range(20_000, 32_000), 12_000))
+
+
 def free_port():
     """A port that nobody has. It is bound without listening there: a process that another case forks
     meanwhile keeps the socket until its program begins, and where it listens no server can. It is
     below the ports that the system gives to clients, who might take it before the server does."""
     while True:
-        port = random.randrange(20_000, 32_000)
+        port = next(PORTS)
         with contextlib.suppress(OSError), socket.socket() as probe:
             probe.setsockopt(socket.SOL_SOCKET, socket.SO_REUSEADDR, 1)
             probe.bind(("0.0.0.0", port))
