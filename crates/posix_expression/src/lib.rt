@@ -3,11 +3,15 @@
 #![tactic(auto)]
 
 mod expression;
+mod level;
+mod lexing;
 mod older;
-mod parts;
 mod reading;
+mod shape;
 mod text;
+mod tree;
 mod unsaid;
+mod writing;
 
 pub use expression::Search;
 pub use older::Older;

@@ -1,5 +1,10 @@
 //! Why an expression isn't said.
 
+ghost use Rattle.std.specs.Prelude.{◌≡◌};
+ghost use Rattle.posix_expression.specs.declared.unsaid.Unsaid.TheVariants.{Memory};
+
+use std::alloc::{AllocError, AllocFailed};
+
 /// Why no pattern says what a regular expression does.
 #[derive(Clone, Copy)]
 pub enum Unsaid {
@@ -17,6 +22,8 @@ pub enum Unsaid {
     Unopened,
     TooDeep,
     TooLarge,
+    /// Memory ran out.
+    Memory,
 }
 
 impl Unsaid {
@@ -37,6 +44,23 @@ impl Unsaid {
             Unsaid::Unopened => "it has a ')' that closes nothing",
             Unsaid::TooDeep => "its parentheses are over 30 deep",
             Unsaid::TooLarge => "it is too large for a pattern",
+            Unsaid::Memory => "memory ran out",
         }
+    }
+}
+
+impl From<AllocError> for Unsaid {
+    ghost from_gives = { λ _ why. why ≡ Memory };
+
+    fn from(_e: AllocError) -> Unsaid {
+        Unsaid::Memory
+    }
+}
+
+impl<T: Drop> From<AllocFailed<T>> for Unsaid {
+    ghost from_gives = { λ _ why. why ≡ Memory };
+
+    fn from(_e: AllocFailed<T>) -> Unsaid {
+        Unsaid::Memory
     }
 }

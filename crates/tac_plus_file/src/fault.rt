@@ -17,6 +17,10 @@ pub enum Mistake {
     CarriageReturn,
     CutWord,
     Include,
+    /// It is a file of tac_plus-ng.
+    TacPlusNg,
+    /// It is a file of the tac_plus before tac_plus-ng, by the same author.
+    OtherTacPlus,
     /// It is there already, at this line.
     Repeated(usize),
 }
@@ -41,6 +45,12 @@ impl fmt::Display for Mistake {
             Mistake::Include => {
                 f.write_str("tac_plus F4.0.4 reads no other file: put them into one first")
             }
+            Mistake::TacPlusNg => f.write_str(
+                "this is a configuration of tac_plus-ng, which isn't read: docs/MOVING.md",
+            ),
+            Mistake::OtherTacPlus => f.write_str(
+                "this is a configuration of another tac_plus, by its 'id', which isn't read: docs/MOVING.md",
+            ),
             Mistake::Repeated(line) => write!(f, "this is there already, at line {line}"),
         }
     }

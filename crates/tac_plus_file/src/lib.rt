@@ -5,6 +5,7 @@ mod blocks;
 mod configuration;
 mod fault;
 mod keyword;
+mod newer;
 mod reader;
 mod reading;
 mod subject;

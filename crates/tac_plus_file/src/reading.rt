@@ -4,6 +4,7 @@ use crate::blocks::{read_access_list, read_host};
 use crate::configuration::{Configuration, Extra, Host, Names, Place, Setting};
 use crate::fault::{FileFault, Mistake};
 use crate::keyword::Keyword;
+use crate::newer::refusal_of;
 use crate::reader::{Reader, Token};
 use crate::subject::{new_subject, read_subject};
 use pol_names::Kind;
@@ -181,13 +182,16 @@ fn read_items(reader: &mut Reader<'_>, draft: &mut Draft) -> Result<(), FileFaul
     Ok(())
 }
 
-/// What a file says, as tac_plus F4.0.4 reads it; or the first line that isn't one of its files.
+/// What a file says, as tac_plus F4.0.4 reads it; or the first line that isn't one of its files, or
+/// that makes it one of another tac_plus.
 ///
 /// Linear in the file, but for the look-up of names. Braces stand in braces at most twice, so
 /// nothing here goes deeper than that.
 pub fn read_configuration(alloc: Global, text: &[u8]) -> Result<Configuration, FileFault> {
     let mut reader = Reader::new(alloc, text);
     let mut draft = Draft::new(alloc);
-    read_items(&mut reader, &mut draft)?;
+    if let Err(fault) = read_items(&mut reader, &mut draft) {
+        return Err(refusal_of(alloc, text, fault));
+    }
     Ok(draft.finish())
 }

@@ -1,9 +1,15 @@
 //! The rules that a command's block becomes.
 
+ghost use Rattle.std.specs.Prelude.{◌≡◌, ◌↔◌, ◌⊎◌, ℕ, List, IfOk, IfSome, option_map};
+ghost use Rattle.posix_expression.specs.Finding.{Finds};
+ghost use Rattle.posix_expression.specs.Searched.{searched};
+ghost use Rattle.posix_expression.specs.Writing.{either as either_of};
+
 use crate::draft::Draft;
 use pol_names::Verdict;
-use pol_pattern::{Pattern, PatternFault};
-use posix_expression::{Older, Search, Text, Unsaid};
+use pol_pattern::Pattern;
+use posix_expression::{Older, Search, Unsaid};
+use std::alloc::{AllocError, Global};
 use tac_plus_file::{Command, Rule};
 
 /// What is searched for by rules of one verdict that stand one after another.
@@ -22,62 +28,57 @@ impl Drop for Pending {
     }
 }
 
-impl Draft {
-    // Whether a policy may have the pattern: it has at most 400 bytes and 400 factors.
-    fn may_have(&mut self, pattern: &Text) -> bool {
-        match Pattern::read(self.alloc, pattern.as_slice()) {
-            Ok(_) => !pattern.is_cut(),
-            Err(PatternFault::Memory) => {
-                self.policy.cut();
-                false
-            }
-            Err(_) => false,
+impl Pending {
+    // What is found where either is, if both have one verdict and one pattern may say both.
+    fn joined(
+        &self,
+        alloc: Global,
+        verdict: Verdict,
+        search: &Search,
+    ) -> Result<Option<Search>, AllocError>
+        ensures alike { IfOk result
+            (λ both. IfSome both (λ found. self.now.verdict ≡ verdict)) }
+        ensures exact { self.now.verdict ≡ verdict → IfOk result (λ both. option_map searched both
+            ≡ either_of (searched self.now.search) (searched search.now)) }
+        ensures found { IfOk result (λ both. IfSome both (λ found. (arguments : List ℕ)
+            → Finds (searched found) arguments
+            ↔ (Finds (searched self.now.search) arguments
+            ⊎ Finds (searched search.now) arguments))) }
+    {
+        if self.verdict != verdict {
+            return Ok(None);
         }
+        self.search.or(alloc, search)
     }
+}
 
-    // The pattern of a command's lines whose arguments have what is searched for, if a policy may have
-    // it. A line without arguments is the command alone.
-    fn pattern_of(&mut self, name: &[u8], search: &Search) -> Option<Text> {
-        let mut pattern = Text::new(self.alloc);
-        pattern.spell_all(name);
-        if search.is_optional() {
-            pattern.add(b"( ");
-            search.write(&mut pattern);
-            pattern.add(b")?");
-        } else {
-            pattern.push(b' ');
-            search.write(&mut pattern);
-        }
-        if pattern.is_cut() {
+impl Draft {
+    // The pattern of a command's lines in whose arguments the search is found, or why there is none.
+    fn pattern_of(&mut self, name: &[u8], search: &Search) -> Result<Pattern, Unsaid> {
+        let pattern = search.pattern(self.alloc, name);
+        if let Err(Unsaid::Memory) = pattern {
             self.policy.cut();
         }
-        if self.may_have(&pattern) {
-            Some(pattern)
-        } else {
-            None
-        }
+        pattern
     }
 
     // What a rule searches for, if a policy may have the pattern.
     fn search_of(&mut self, name: &[u8], rule: &Rule) -> Result<Search, Unsaid> {
         let search = Search::read(self.alloc, rule.expression.as_slice())?;
-        if self.pattern_of(name, &search).is_none() {
-            return Err(Unsaid::TooLarge);
-        }
+        let _ = self.pattern_of(name, &search)?;
         Ok(search)
     }
 
     // Adds a rule about what is searched for.
     fn push_search(&mut self, verdict: Verdict, name: &[u8], search: &Search) {
-        if let Some(pattern) = self.pattern_of(name, search) {
-            self.push_rule(verdict, pattern.as_slice());
+        if let Ok(pattern) = self.pattern_of(name, search) {
+            self.push_rule(verdict, pattern.source());
         }
     }
 
     // Denies all lines of a command that no rule decided.
     fn deny_command(&mut self, name: &[u8]) {
-        let search = Search::everything(self.alloc);
-        self.push_search(Verdict::Deny, name, &search);
+        self.push_search(Verdict::Deny, name, &Search::everything());
     }
 
     // Adds the rule that is pending.
@@ -95,11 +96,14 @@ impl Draft {
         verdict: Verdict,
         search: &Search,
     ) -> Option<Search> {
-        if before.verdict != verdict {
-            return None;
-        }
-        let both = before.search.or(self.alloc, search)?;
-        if self.pattern_of(name, &both).is_none() {
+        let both = match before.joined(self.alloc, verdict, search) {
+            Ok(both) => both?,
+            Err(_) => {
+                self.policy.cut();
+                return None;
+            }
+        };
+        if self.pattern_of(name, &both).is_err() {
             return None;
         }
         Some(both)
@@ -163,6 +167,9 @@ impl Draft {
                     }
                 }
                 Err(why) => {
+                    if let Unsaid::Memory = why {
+                        self.policy.cut();
+                    }
                     self.tell_unsaid(rule, why);
                     if rule.verdict == Verdict::Deny {
                         self.push_pending(name);

@@ -1,0 +1,17 @@
+pub mod PatternSets
+pub mod PatternTrees
+pub mod Fits
+pub mod Texts
+pub mod Parts
+pub mod Repeated
+pub mod Law
+pub mod Spelling
+pub mod Right
+pub mod Whole
+pub mod Lines
+pub mod Long
+pub mod Steps
+pub mod ItemSteps
+pub mod ReadSteps
+pub mod Levels
+pub mod Sound
