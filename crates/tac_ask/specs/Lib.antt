@@ -1,0 +1,9 @@
+pub mod Arguments
+pub mod Login
+pub mod Bodies
+pub mod Packet
+pub mod Reply
+pub mod Judging
+pub mod Turn
+pub mod Status
+pub mod Answer
