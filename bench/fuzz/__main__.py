@@ -26,7 +26,8 @@ a console of the reference that has the first, which then has to have the second
 a device is answered that asks for every service, for every user, under both policies (changes.py).
 
 `devices` draws devices' files, 3,000 of them, and compares what `tacd devices` prints of each and of
-twenty addresses with a reference that has Python's ipaddress (devices.py).
+twenty addresses, and which lines `--lint` tells, with a reference that has Python's ipaddress
+(devices.py).
 
 `selfcheck` needs no program. It takes wrong bodies of the reference, one mistake each, for programs
 with such a mistake, and each has to be found by a script, or by a devices' file (wrong_bodies.py).

@@ -13,7 +13,7 @@ $ tacd devices --all nowhere
 !
 !   tip: to pass '--all' as a value, use '-- --all'
 !
-! Usage: tacd devices <FILE> [ADDRESS]...
+! Usage: tacd devices [OPTIONS] <FILE> [ADDRESS]...
 !
 ! For more information, try '--help'.
 status 2
@@ -91,4 +91,5 @@ at ::1
 
 $ tacd devices refused ::1
 devices fault line 1 8 NoKey
+! tacd: 'tacd devices --lint refused' says more
 status 1

@@ -7,6 +7,7 @@ key k␉k
 
 $ tacd devices devices
 devices fault line 2 1 BadLine
+! tacd: 'tacd devices --lint devices' says more
 status 1
 
 file devices
@@ -14,6 +15,7 @@ device a/b
 
 $ tacd devices devices
 devices fault line 1 2 BadName
+! tacd: 'tacd devices --lint devices' says more
 status 1
 
 file devices
@@ -21,6 +23,7 @@ at 1.2.3
 
 $ tacd devices devices
 devices fault line 1 3 NoDevice
+! tacd: 'tacd devices --lint devices' says more
 status 1
 
 file devices
@@ -28,6 +31,7 @@ file devices
 
 $ tacd devices devices
 devices fault line 1 3 NoDevice
+! tacd: 'tacd devices --lint devices' says more
 status 1
 
 file devices
@@ -36,6 +40,7 @@ device a
 
 $ tacd devices devices
 devices fault line 2 5 BadValue
+! tacd: 'tacd devices --lint devices' says more
 status 1
 
 file devices
@@ -44,6 +49,7 @@ connections 1x
 
 $ tacd devices devices
 devices fault line 2 5 BadValue
+! tacd: 'tacd devices --lint devices' says more
 status 1
 
 file devices
@@ -54,6 +60,7 @@ device a
 
 $ tacd devices devices
 devices fault line 4 6 Repeated
+! tacd: 'tacd devices --lint devices' says more
 status 1
 
 file devices
@@ -63,6 +70,7 @@ key l
 
 $ tacd devices devices
 devices fault line 3 6 Repeated
+! tacd: 'tacd devices --lint devices' says more
 status 1
 
 file devices
@@ -72,6 +80,7 @@ connections 1
 
 $ tacd devices devices
 devices fault line 3 6 Repeated
+! tacd: 'tacd devices --lint devices' says more
 status 1
 
 file devices
@@ -81,6 +90,7 @@ at 1.2.3.4/32
 
 $ tacd devices devices
 devices fault line 3 6 Repeated
+! tacd: 'tacd devices --lint devices' says more
 status 1
 
 file devices
@@ -92,6 +102,7 @@ at 1.0.0.0/008
 
 $ tacd devices devices
 devices fault line 5 6 Repeated
+! tacd: 'tacd devices --lint devices' says more
 status 1
 
 file devices
@@ -101,6 +112,7 @@ at 0:0::0/128
 
 $ tacd devices devices
 devices fault line 3 6 Repeated
+! tacd: 'tacd devices --lint devices' says more
 status 1
 
 file devices
@@ -111,6 +123,7 @@ key k
 
 $ tacd devices devices
 devices fault line 4 6 Repeated
+! tacd: 'tacd devices --lint devices' says more
 status 1
 
 file devices
@@ -122,6 +135,7 @@ at ::1
 
 $ tacd devices devices
 devices fault line 3 8 NoKey
+! tacd: 'tacd devices --lint devices' says more
 status 1
 
 file devices
@@ -132,6 +146,7 @@ key k
 
 $ tacd devices devices
 devices fault line 1 9 NoAddress
+! tacd: 'tacd devices --lint devices' says more
 status 1
 
 file devices
@@ -141,6 +156,7 @@ at x
 
 $ tacd devices devices
 devices fault line 2 5 BadValue
+! tacd: 'tacd devices --lint devices' says more
 status 1
 
 file devices
@@ -150,6 +166,7 @@ key k
 
 $ tacd devices devices
 devices fault line 3 5 BadValue
+! tacd: 'tacd devices --lint devices' says more
 status 1
 
 file devices
@@ -159,6 +176,7 @@ connections 0
 
 $ tacd devices devices
 devices fault line 3 5 BadValue
+! tacd: 'tacd devices --lint devices' says more
 status 1
 
 file devices
@@ -167,6 +185,7 @@ x
 
 $ tacd devices devices
 devices fault line 1 1 BadLine
+! tacd: 'tacd devices --lint devices' says more
 status 1
 
 file devices
@@ -175,4 +194,5 @@ x
 
 $ tacd devices devices
 devices fault line 1 1 BadLine
+! tacd: 'tacd devices --lint devices' says more
 status 1

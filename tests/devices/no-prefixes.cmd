@@ -6,6 +6,7 @@ device a
 
 $ tacd devices devices
 devices fault line 2 4 BadPrefix
+! tacd: 'tacd devices --lint devices' says more
 status 1
 
 file devices
@@ -14,6 +15,7 @@ at core.example
 
 $ tacd devices devices
 devices fault line 2 4 BadPrefix
+! tacd: 'tacd devices --lint devices' says more
 status 1
 
 file devices
@@ -22,6 +24,7 @@ at 1.2.3/8
 
 $ tacd devices devices
 devices fault line 2 4 BadPrefix
+! tacd: 'tacd devices --lint devices' says more
 status 1
 
 file devices
@@ -30,6 +33,7 @@ at 1.2.3.256
 
 $ tacd devices devices
 devices fault line 2 4 BadPrefix
+! tacd: 'tacd devices --lint devices' says more
 status 1
 
 file devices
@@ -38,6 +42,7 @@ at 192.0.2.1/
 
 $ tacd devices devices
 devices fault line 2 4 BadPrefix
+! tacd: 'tacd devices --lint devices' says more
 status 1
 
 file devices
@@ -46,6 +51,7 @@ at 192.0.2.0/33
 
 $ tacd devices devices
 devices fault line 2 4 BadPrefix
+! tacd: 'tacd devices --lint devices' says more
 status 1
 
 file devices
@@ -54,6 +60,7 @@ at 0.0.0.0/128
 
 $ tacd devices devices
 devices fault line 2 4 BadPrefix
+! tacd: 'tacd devices --lint devices' says more
 status 1
 
 file devices
@@ -62,6 +69,7 @@ at 192.0.2.0/-1
 
 $ tacd devices devices
 devices fault line 2 4 BadPrefix
+! tacd: 'tacd devices --lint devices' says more
 status 1
 
 file devices
@@ -70,6 +78,7 @@ at 192.0.2.0/24/24
 
 $ tacd devices devices
 devices fault line 2 4 BadPrefix
+! tacd: 'tacd devices --lint devices' says more
 status 1
 
 file devices
@@ -78,6 +87,7 @@ at 192.0.2.1/31
 
 $ tacd devices devices
 devices fault line 2 4 BadPrefix
+! tacd: 'tacd devices --lint devices' says more
 status 1
 
 file devices
@@ -86,6 +96,7 @@ at 128.0.0.0/0
 
 $ tacd devices devices
 devices fault line 2 4 BadPrefix
+! tacd: 'tacd devices --lint devices' says more
 status 1
 
 file devices
@@ -94,6 +105,7 @@ at ::1/127
 
 $ tacd devices devices
 devices fault line 2 4 BadPrefix
+! tacd: 'tacd devices --lint devices' says more
 status 1
 
 file devices
@@ -102,6 +114,7 @@ at 8000::/0
 
 $ tacd devices devices
 devices fault line 2 4 BadPrefix
+! tacd: 'tacd devices --lint devices' says more
 status 1
 
 file devices
@@ -110,4 +123,5 @@ at [::1]
 
 $ tacd devices devices
 devices fault line 2 4 BadPrefix
+! tacd: 'tacd devices --lint devices' says more
 status 1

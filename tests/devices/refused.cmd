@@ -6,6 +6,7 @@ devices a
 
 $ tacd devices devices
 devices fault line 1 1 BadLine
+! tacd: 'tacd devices --lint devices' says more
 status 1
 
 file devices
@@ -13,6 +14,7 @@ device
 
 $ tacd devices devices
 devices fault line 1 1 BadLine
+! tacd: 'tacd devices --lint devices' says more
 status 1
 
 file devices
@@ -20,6 +22,7 @@ device a b
 
 $ tacd devices devices
 devices fault line 1 1 BadLine
+! tacd: 'tacd devices --lint devices' says more
 status 1
 
 file devices
@@ -28,6 +31,7 @@ at 1.2.3.4 /8
 
 $ tacd devices devices
 devices fault line 2 1 BadLine
+! tacd: 'tacd devices --lint devices' says more
 status 1
 
 file devices
@@ -38,6 +42,7 @@ Key l
 
 $ tacd devices devices
 devices fault line 4 1 BadLine
+! tacd: 'tacd devices --lint devices' says more
 status 1
 
 file devices
@@ -46,6 +51,7 @@ key
 
 $ tacd devices devices
 devices fault line 2 1 BadLine
+! tacd: 'tacd devices --lint devices' says more
 status 1
 
 file devices
@@ -54,6 +60,7 @@ old-key
 
 $ tacd devices devices
 devices fault line 2 1 BadLine
+! tacd: 'tacd devices --lint devices' says more
 status 1
 
 file devices
@@ -62,6 +69,7 @@ old-keys k
 
 $ tacd devices devices
 devices fault line 2 1 BadLine
+! tacd: 'tacd devices --lint devices' says more
 status 1
 
 file devices
@@ -70,6 +78,7 @@ connections 1 2
 
 $ tacd devices devices
 devices fault line 2 1 BadLine
+! tacd: 'tacd devices --lint devices' says more
 status 1
 
 file devices
@@ -78,6 +87,7 @@ key a␉tab
 
 $ tacd devices devices
 devices fault line 2 1 BadLine
+! tacd: 'tacd devices --lint devices' says more
 status 1
 
 file devices
@@ -85,6 +95,7 @@ device a␍
 
 $ tacd devices devices
 devices fault line 1 1 BadLine
+! tacd: 'tacd devices --lint devices' says more
 status 1
 
 file devices
@@ -93,6 +104,7 @@ key schlüssel
 
 $ tacd devices devices
 devices fault line 2 1 BadLine
+! tacd: 'tacd devices --lint devices' says more
 status 1
 
 # 2 BadName
@@ -101,6 +113,7 @@ file devices
 
 $ tacd devices devices
 devices fault line 1 2 BadName
+! tacd: 'tacd devices --lint devices' says more
 status 1
 
 file devices
@@ -108,6 +121,7 @@ device core/1
 
 $ tacd devices devices
 devices fault line 1 2 BadName
+! tacd: 'tacd devices --lint devices' says more
 status 1
 
 file devices
@@ -115,6 +129,7 @@ device a23456789-123456789-123456789-123
 
 $ tacd devices devices
 devices fault line 1 2 BadName
+! tacd: 'tacd devices --lint devices' says more
 status 1
 
 # 3 NoDevice: even where the setting is wrong.
@@ -123,6 +138,7 @@ at 192.0.2.1
 
 $ tacd devices devices
 devices fault line 1 3 NoDevice
+! tacd: 'tacd devices --lint devices' says more
 status 1
 
 file devices
@@ -130,6 +146,7 @@ at core-1
 
 $ tacd devices devices
 devices fault line 1 3 NoDevice
+! tacd: 'tacd devices --lint devices' says more
 status 1
 
 file devices
@@ -138,6 +155,7 @@ key k
 
 $ tacd devices devices
 devices fault line 2 3 NoDevice
+! tacd: 'tacd devices --lint devices' says more
 status 1
 
 file devices
@@ -145,6 +163,7 @@ file devices
 
 $ tacd devices devices
 devices fault line 1 3 NoDevice
+! tacd: 'tacd devices --lint devices' says more
 status 1
 
 file devices
@@ -152,6 +171,7 @@ connections 0
 
 $ tacd devices devices
 devices fault line 1 3 NoDevice
+! tacd: 'tacd devices --lint devices' says more
 status 1
 
 # 4 BadPrefix
@@ -161,6 +181,7 @@ at core-1.example
 
 $ tacd devices devices
 devices fault line 2 4 BadPrefix
+! tacd: 'tacd devices --lint devices' says more
 status 1
 
 file devices
@@ -169,6 +190,7 @@ at 192.0.2.1/33
 
 $ tacd devices devices
 devices fault line 2 4 BadPrefix
+! tacd: 'tacd devices --lint devices' says more
 status 1
 
 file devices
@@ -177,6 +199,7 @@ at 192.0.2.0/
 
 $ tacd devices devices
 devices fault line 2 4 BadPrefix
+! tacd: 'tacd devices --lint devices' says more
 status 1
 
 file devices
@@ -185,6 +208,7 @@ at /24
 
 $ tacd devices devices
 devices fault line 2 4 BadPrefix
+! tacd: 'tacd devices --lint devices' says more
 status 1
 
 file devices
@@ -193,6 +217,7 @@ at 192.0.2.0/0024
 
 $ tacd devices devices
 devices fault line 2 4 BadPrefix
+! tacd: 'tacd devices --lint devices' says more
 status 1
 
 file devices
@@ -201,6 +226,7 @@ at 192.0.2.1/24
 
 $ tacd devices devices
 devices fault line 2 4 BadPrefix
+! tacd: 'tacd devices --lint devices' says more
 status 1
 
 file devices
@@ -209,6 +235,7 @@ at 010.0.0.1
 
 $ tacd devices devices
 devices fault line 2 4 BadPrefix
+! tacd: 'tacd devices --lint devices' says more
 status 1
 
 file devices
@@ -217,6 +244,7 @@ at ::1/129
 
 $ tacd devices devices
 devices fault line 2 4 BadPrefix
+! tacd: 'tacd devices --lint devices' says more
 status 1
 
 file devices
@@ -225,6 +253,7 @@ at 2001:db8::1/64
 
 $ tacd devices devices
 devices fault line 2 4 BadPrefix
+! tacd: 'tacd devices --lint devices' says more
 status 1
 
 file devices
@@ -233,6 +262,7 @@ at fe80::1%2
 
 $ tacd devices devices
 devices fault line 2 4 BadPrefix
+! tacd: 'tacd devices --lint devices' says more
 status 1
 
 file devices
@@ -241,6 +271,7 @@ at ::ffff:192.0.2.1
 
 $ tacd devices devices
 devices fault line 2 4 BadPrefix
+! tacd: 'tacd devices --lint devices' says more
 status 1
 
 file devices
@@ -249,6 +280,7 @@ at ::ffff:0:0/96
 
 $ tacd devices devices
 devices fault line 2 4 BadPrefix
+! tacd: 'tacd devices --lint devices' says more
 status 1
 
 file devices
@@ -257,6 +289,7 @@ at ::ffff:c000:200/120
 
 $ tacd devices devices
 devices fault line 2 4 BadPrefix
+! tacd: 'tacd devices --lint devices' says more
 status 1
 
 # 5 BadValue. A key is never printed.
@@ -266,6 +299,7 @@ device a
 
 $ tacd devices devices
 devices fault line 2 5 BadValue
+! tacd: 'tacd devices --lint devices' says more
 status 1
 
 file devices
@@ -274,6 +308,7 @@ key kkkkkkkkkkkkkkkkkkkkkkkkkkkkkkkkkkkkkkkkkkkkkkkkkkkkkkkkkkkkkkkkkkkkkkkkkkkk
 
 $ tacd devices devices
 devices fault line 2 5 BadValue
+! tacd: 'tacd devices --lint devices' says more
 status 1
 
 file devices
@@ -282,6 +317,7 @@ device a
 
 $ tacd devices devices
 devices fault line 2 5 BadValue
+! tacd: 'tacd devices --lint devices' says more
 status 1
 
 file devices
@@ -290,6 +326,7 @@ old-key kkkkkkkkkkkkkkkkkkkkkkkkkkkkkkkkkkkkkkkkkkkkkkkkkkkkkkkkkkkkkkkkkkkkkkkk
 
 $ tacd devices devices
 devices fault line 2 5 BadValue
+! tacd: 'tacd devices --lint devices' says more
 status 1
 
 # It comes before Repeated.
@@ -301,6 +338,7 @@ old-key l
 
 $ tacd devices devices
 devices fault line 4 5 BadValue
+! tacd: 'tacd devices --lint devices' says more
 status 1
 
 file devices
@@ -309,6 +347,7 @@ connections 0
 
 $ tacd devices devices
 devices fault line 2 5 BadValue
+! tacd: 'tacd devices --lint devices' says more
 status 1
 
 file devices
@@ -317,6 +356,7 @@ connections 10001
 
 $ tacd devices devices
 devices fault line 2 5 BadValue
+! tacd: 'tacd devices --lint devices' says more
 status 1
 
 file devices
@@ -325,6 +365,7 @@ connections 000001
 
 $ tacd devices devices
 devices fault line 2 5 BadValue
+! tacd: 'tacd devices --lint devices' says more
 status 1
 
 file devices
@@ -333,6 +374,7 @@ connections four
 
 $ tacd devices devices
 devices fault line 2 5 BadValue
+! tacd: 'tacd devices --lint devices' says more
 status 1
 
 # 6 Repeated
@@ -345,6 +387,7 @@ device a
 
 $ tacd devices devices
 devices fault line 5 6 Repeated
+! tacd: 'tacd devices --lint devices' says more
 status 1
 
 file devices
@@ -354,6 +397,7 @@ key k
 
 $ tacd devices devices
 devices fault line 3 6 Repeated
+! tacd: 'tacd devices --lint devices' says more
 status 1
 
 file devices
@@ -363,6 +407,7 @@ old-key l
 
 $ tacd devices devices
 devices fault line 3 6 Repeated
+! tacd: 'tacd devices --lint devices' says more
 status 1
 
 # A key isn't the old key of its own device, whichever line comes first.
@@ -373,6 +418,7 @@ old-key k
 
 $ tacd devices devices
 devices fault line 3 6 Repeated
+! tacd: 'tacd devices --lint devices' says more
 status 1
 
 file devices
@@ -383,6 +429,7 @@ key two words
 
 $ tacd devices devices
 devices fault line 4 6 Repeated
+! tacd: 'tacd devices --lint devices' says more
 status 1
 
 file devices
@@ -392,6 +439,7 @@ connections 4
 
 $ tacd devices devices
 devices fault line 3 6 Repeated
+! tacd: 'tacd devices --lint devices' says more
 status 1
 
 file devices
@@ -403,6 +451,7 @@ at 192.0.2.1/32
 
 $ tacd devices devices
 devices fault line 5 6 Repeated
+! tacd: 'tacd devices --lint devices' says more
 status 1
 
 file devices
@@ -412,6 +461,7 @@ at 2001:DB8:0::0/128
 
 $ tacd devices devices
 devices fault line 3 6 Repeated
+! tacd: 'tacd devices --lint devices' says more
 status 1
 
 # 8 NoKey over all devices, and then 9 NoAddress; each where every line is right.
@@ -423,6 +473,7 @@ key k
 
 $ tacd devices devices
 devices fault line 1 8 NoKey
+! tacd: 'tacd devices --lint devices' says more
 status 1
 
 file devices
@@ -433,6 +484,7 @@ at ::1
 
 $ tacd devices devices
 devices fault line 3 8 NoKey
+! tacd: 'tacd devices --lint devices' says more
 status 1
 
 # An old key alone is no key.
@@ -443,6 +495,7 @@ old-key k
 
 $ tacd devices devices
 devices fault line 1 8 NoKey
+! tacd: 'tacd devices --lint devices' says more
 status 1
 
 file devices
@@ -452,6 +505,7 @@ key k
 
 $ tacd devices devices
 devices fault line 2 9 NoAddress
+! tacd: 'tacd devices --lint devices' says more
 status 1
 
 file devices
@@ -465,6 +519,7 @@ key k
 
 $ tacd devices devices
 devices fault line 4 9 NoAddress
+! tacd: 'tacd devices --lint devices' says more
 status 1
 
 file devices
@@ -475,4 +530,5 @@ at ::1/64
 
 $ tacd devices devices
 devices fault line 4 4 BadPrefix
+! tacd: 'tacd devices --lint devices' says more
 status 1

@@ -173,6 +173,7 @@ TLS
 
 $ tacd devices devices
 devices fault line 3 1 BadLine
+! tacd: 'tacd devices --lint devices' says more
 status 1
 
 file devices
@@ -182,6 +183,7 @@ tlsa
 
 $ tacd devices devices
 devices fault line 3 1 BadLine
+! tacd: 'tacd devices --lint devices' says more
 status 1
 
 file devices
@@ -191,6 +193,7 @@ tls-name a
 
 $ tacd devices devices
 devices fault line 3 1 BadLine
+! tacd: 'tacd devices --lint devices' says more
 status 1
 
 file devices
@@ -200,6 +203,7 @@ tls=a
 
 $ tacd devices devices
 devices fault line 3 1 BadLine
+! tacd: 'tacd devices --lint devices' says more
 status 1
 
 file devices
@@ -209,6 +213,7 @@ tls␉a
 
 $ tacd devices devices
 devices fault line 3 1 BadLine
+! tacd: 'tacd devices --lint devices' says more
 status 1
 
 file devices
@@ -218,6 +223,7 @@ tls␍
 
 $ tacd devices devices
 devices fault line 3 1 BadLine
+! tacd: 'tacd devices --lint devices' says more
 status 1
 
 file devices
@@ -227,6 +233,7 @@ Tls a
 
 $ tacd devices devices
 devices fault line 3 1 BadLine
+! tacd: 'tacd devices --lint devices' says more
 status 1
 
 file devices
@@ -236,6 +243,7 @@ tls étage
 
 $ tacd devices devices
 devices fault line 3 1 BadLine
+! tacd: 'tacd devices --lint devices' says more
 status 1
 
 # 3 NoDevice: even where the name is wrong.
@@ -246,6 +254,7 @@ at ::1
 
 $ tacd devices devices
 devices fault line 1 3 NoDevice
+! tacd: 'tacd devices --lint devices' says more
 status 1
 
 file devices
@@ -255,6 +264,7 @@ at ::1
 
 $ tacd devices devices
 devices fault line 1 3 NoDevice
+! tacd: 'tacd devices --lint devices' says more
 status 1
 
 file devices
@@ -264,6 +274,7 @@ at ::1
 
 $ tacd devices devices
 devices fault line 1 3 NoDevice
+! tacd: 'tacd devices --lint devices' says more
 status 1
 
 file devices
@@ -273,6 +284,7 @@ at ::1
 
 $ tacd devices devices
 devices fault line 1 3 NoDevice
+! tacd: 'tacd devices --lint devices' says more
 status 1
 
 # 5 BadValue: the name is empty, or has over 64 symbols.
@@ -283,6 +295,7 @@ at ::1
 
 $ tacd devices devices
 devices fault line 3 5 BadValue
+! tacd: 'tacd devices --lint devices' says more
 status 1
 
 file devices
@@ -292,6 +305,7 @@ tls nnnnnnnnnnnnnnnnnnnnnnnnnnnnnnnnnnnnnnnnnnnnnnnnnnnnnnnnnnnnnnnnn
 
 $ tacd devices devices
 devices fault line 3 5 BadValue
+! tacd: 'tacd devices --lint devices' says more
 status 1
 
 # It comes before Repeated.
@@ -302,6 +316,7 @@ tls
 
 $ tacd devices devices
 devices fault line 3 5 BadValue
+! tacd: 'tacd devices --lint devices' says more
 status 1
 
 # 6 Repeated: a second one of a device, whichever the two are.
@@ -314,6 +329,7 @@ tls
 
 $ tacd devices devices
 devices fault line 5 6 Repeated
+! tacd: 'tacd devices --lint devices' says more
 status 1
 
 file devices
@@ -325,6 +341,7 @@ tls a
 
 $ tacd devices devices
 devices fault line 5 6 Repeated
+! tacd: 'tacd devices --lint devices' says more
 status 1
 
 file devices
@@ -336,6 +353,7 @@ tls
 
 $ tacd devices devices
 devices fault line 5 6 Repeated
+! tacd: 'tacd devices --lint devices' says more
 status 1
 
 file devices
@@ -347,6 +365,7 @@ tls b
 
 $ tacd devices devices
 devices fault line 5 6 Repeated
+! tacd: 'tacd devices --lint devices' says more
 status 1
 
 file devices
@@ -358,6 +377,7 @@ tls a
 
 $ tacd devices devices
 devices fault line 5 6 Repeated
+! tacd: 'tacd devices --lint devices' says more
 status 1
 
 # With tls too a key isn't the old key of its own device.
@@ -370,6 +390,7 @@ key k
 
 $ tacd devices devices
 devices fault line 5 6 Repeated
+! tacd: 'tacd devices --lint devices' says more
 status 1
 
 # 8 NoKey: neither a key nor tls, wherever others have one.
@@ -385,6 +406,7 @@ tls b
 
 $ tacd devices devices
 devices fault line 4 8 NoKey
+! tacd: 'tacd devices --lint devices' says more
 status 1
 
 # An old key is none, with tls neither.
@@ -396,6 +418,7 @@ old-key k
 
 $ tacd devices devices
 devices fault line 1 8 NoKey
+! tacd: 'tacd devices --lint devices' says more
 status 1
 
 file devices
@@ -415,6 +438,7 @@ at ::1
 
 $ tacd devices devices
 devices fault line 10 8 NoKey
+! tacd: 'tacd devices --lint devices' says more
 status 1
 
 # The faults of a whole file come after those of all lines, and NoKey before NoAddress.
@@ -428,6 +452,7 @@ tls
 
 $ tacd devices devices
 devices fault line 3 8 NoKey
+! tacd: 'tacd devices --lint devices' says more
 status 1
 
 file devices
@@ -439,6 +464,7 @@ tls
 
 $ tacd devices devices
 devices fault line 5 6 Repeated
+! tacd: 'tacd devices --lint devices' says more
 status 1
 
 # 9 NoAddress: with tls too.
@@ -451,4 +477,5 @@ tls a.example
 
 $ tacd devices devices
 devices fault line 4 9 NoAddress
+! tacd: 'tacd devices --lint devices' says more
 status 1

@@ -1,0 +1,5 @@
+use Rattle.std.proofs.Common.{length}
+use Rattle.tac_devices_lint.proofs.clash.first_clash.Given as goal
+
+abbrev pub decreases-lines : goal.decreases-lines
+decreases-lines l = length l.lines.lines

@@ -1,0 +1,4 @@
+pub mod Odd
+pub mod Words
+pub mod Places
+pub mod Ends
