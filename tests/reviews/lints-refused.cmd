@@ -59,9 +59,9 @@ permit a+
 show
 
 $ tacd lint policy
-line 1 column 1: refused: 4 NoSubject
-line 2 column 6: refused: 2 BadName
-line 3 column 6: refused: 6 BadValue
+line 1 column 1: refused: 4 NoSubject: no line 'group NAME' or 'user NAME' stands before it
+line 2 column 7: refused: 2 BadName: this byte may not stand in a name: A-Z a-z 0-9 _ - . @ may
+line 3 column 6: refused: 6 BadValue: a level is a number from 0 to 15
 line 5 column 1: a keyword in capitals: keywords are in lower case
 line 6 column 1: refused: 1 BadLine: this is a setting of users, and it stands under a group
 line 8 column 1: refused: 1 BadLine: no line of a policy begins with this word
@@ -136,8 +136,8 @@ line 15 column 1: refused: 1 BadLine: after 'priv' one number may follow, and no
 line 16 column 1: refused: 1 BadLine: a value is missing at its end
 line 17 column 1: refused: 1 BadLine: after the name nothing may follow but 'in PARENT'
 line 18 column 12: refused: 1 BadLine: two spaces in a row, where words are set apart by one
-line 19 column 13: refused: 2 BadName
-line 20 column 6: refused: 2 BadName
+line 19 column 14: refused: 2 BadName: this byte may not stand in a name: A-Z a-z 0-9 _ - . @ may
+line 20 column 7: refused: 2 BadName: this byte may not stand in a name: A-Z a-z 0-9 _ - . @ may
 line 21 column 3: refused: 1 BadLine: only the first line of a text says a version, as 'policy 2' or 'policy 3' exactly
 line 22 column 1: refused: 1 BadLine: this is a line of another program's file, such as tac_plus's
 status 1
@@ -301,7 +301,7 @@ login-hash
 
 $ tacd lint policy
 line 3 column 1: refused: 1 BadLine: this is a setting of users, and it stands under a group
-line 5 column 12: refused: 6 BadValue
+line 5 column 12: refused: 6 BadValue: only a hash that 'openssl passwd -6' makes is taken, without quotes
 line 6 column 1: a keyword in capitals: keywords are in lower case
 line 7 column 1: refused: 1 BadLine: a value is missing at its end
 status 1

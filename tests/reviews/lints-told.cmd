@@ -3,6 +3,7 @@ file policy
 user bob
 login x
 permit ^show <cr>
+permit ()
 
 $ tacd lint policy
 line 3 column 8: '^' is a symbol here, and a pattern fits whole lines: is it meant?
@@ -13,6 +14,7 @@ user bob
 login x
 permit exit <cr>
 |  deny show$|
+permit ()
 
 $ tacd lint policy
 line 4 column 12: '$' is a symbol here, and a pattern fits whole lines: is it meant?
@@ -22,6 +24,7 @@ file policy
 user bob
 login x
 permit vlan \d <cr>
+permit ()
 
 $ tacd lint policy
 line 3 column 13: '\d' is the letter d here: is a digit meant, as '[0-9]'?
@@ -31,6 +34,7 @@ file policy
 user bob
 login x
 permit show \w+ <cr>
+permit ()
 
 $ tacd lint policy
 line 3 column 13: '\w' is the letter w here: is '[A-Za-z0-9_]' meant?
@@ -40,6 +44,7 @@ file policy
 user bob
 login x
 permit show\svlan <cr>
+permit ()
 
 $ tacd lint policy
 line 3 column 12: '\s' is the letter s here: is a space meant?
@@ -49,6 +54,7 @@ file policy
 user bob
 login x
 permit show [[:alpha:]]+ <cr>
+permit ()
 
 $ tacd lint policy
 line 3 column 13: '[[:' begins a class of these symbols here: is a range meant, as '[a-z]'?
@@ -58,6 +64,7 @@ file policy
 user bob
 login x
 permit vlan [0-9]{1,3} <cr>
+permit ()
 
 $ tacd lint policy
 line 3 column 18: '{' and '}' are symbols here: is a count meant, as in 'policy 2'?
@@ -68,6 +75,7 @@ policy 2
 user bob
 login x
 permit vlan [0-9]{1,3} <cr>
+permit ()
 
 $ tacd lint policy
 
@@ -75,6 +83,7 @@ $ tacd lint policy
 file policy
 user bob
 login  x
+permit ()
 
 $ tacd lint policy
 line 2 column 7: it begins with a space: is that meant?
@@ -84,6 +93,7 @@ file policy
 user bob
 login x
 |enable y |
+permit ()
 
 $ tacd lint policy
 line 3 column 9: it ends with a space: is that meant?
@@ -93,6 +103,7 @@ file policy
 user bob
 login x
 permit  show <cr>
+permit ()
 
 $ tacd lint policy
 line 3 column 8: it begins with a space: is that meant?
@@ -102,6 +113,7 @@ file policy
 user bob
 login x
 |permit show <cr> |
+permit ()
 
 $ tacd lint policy
 line 3 column 17: it ends with a space: is that meant?
@@ -113,6 +125,7 @@ user bob
 login x
 permit show <cr>
 permit exit
+permit ()
 
 $ tacd lint policy
 line 4 column 12: other rules end in ' <cr>': is it meant that this one doesn't?
@@ -124,6 +137,7 @@ login x
 permit show .*
 permit exit
 permit ping
+permit ()
 
 $ tacd lint policy
 line 1 column 1: no rule ends in ' <cr>', with which Cisco IOS ends each line: is that meant?
@@ -140,6 +154,7 @@ permit show \.*
 permit show[^x]{0,3}
 permit show # all <cr>
 permit vlan [\d] <cr>
+permit ()
 
 $ tacd lint policy
 line 5 column 16: '$' is a symbol here, and a pattern fits whole lines: is it meant?
@@ -166,6 +181,7 @@ file policy
 user bob
 login x
 permit vlan [{1}] <cr>
+permit ()
 
 $ tacd lint policy
 
@@ -186,10 +202,11 @@ status 5
 file policy
 user bob
 login x
+permit ()
 |  group ops|
 
 $ tacd lint policy
-line 3 column 9: nobody is in this group: is that meant?
+line 4 column 9: nobody is in this group: is that meant?
 status 5
 
 file policy
@@ -212,6 +229,7 @@ user eve in ops
 login y
 
 $ tacd lint policy
+line 1 column 7: no shell starts here: none of its users is permitted the empty line, as by 'permit ()'
 line 4 column 8: this rule decides no line: all that it fits is decided by earlier rules
 status 5
 
@@ -219,6 +237,7 @@ status 5
 file policy
 user bob
 login x
+permit ()
 
 $ tacd lint policy
 
@@ -236,6 +255,7 @@ file policy
 user bob
 login ^\d$
 permit (show|\$|[\^$]|\\d|a{b}|[a[:]) <cr>
+permit ()
 
 $ tacd lint policy
 
@@ -245,6 +265,7 @@ policy 3
 user bob
 login-hash $6$rounds=20001$saltsalt$temoAzB1LMUGfs39YsEHhlSSY8ud5tjHcrE1ZINzi8TsesBqqjufdtA7fVhnojTHlBhKZVF0Q9wxWAcE707Cb0
 enable-hash $6$rounds=20000$saltsalt$temoAzB1LMUGfs39YsEHhlSSY8ud5tjHcrE1ZINzi8TsesBqqjufdtA7fVhnojTHlBhKZVF0Q9wxWAcE707Cb0
+permit ()
 
 $ tacd lint policy
 line 3 column 12: over 20000 rounds: each login takes a processor for 8 milliseconds or more
@@ -254,9 +275,11 @@ file policy
 user bob
 login $6$x
 |  enable $y$|
+permit ()
 user eve
 login $6
 enable $$x$
+permit ()
 
 $ tacd lint policy
 line 2 column 7: this text itself is the password: is a hash meant, as after 'login-hash'?

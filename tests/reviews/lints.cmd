@@ -10,6 +10,7 @@ status 5
 file policy
 user bob
 login x
+permit ()
 
 $ tacd lint policy
 
@@ -18,7 +19,7 @@ user b/b
 x
 
 $ tacd lint policy
-line 1 column 6: refused: 2 BadName
+line 1 column 7: refused: 2 BadName: this byte may not stand in a name: A-Z a-z 0-9 _ - . @ may
 line 2 column 1: refused: 1 BadLine: no line of a policy begins with this word
 status 1
 
@@ -51,8 +52,10 @@ policy 3
 user bob
 login $6$saltsalt$temoAzB1LMUGfs39YsEHhlSSY8ud5tjHcrE1ZINzi8TsesBqqjufdtA7fVhnojTHlBhKZVF0Q9wxWAcE707Cb0
 enable-hash $6$rounds=20001$saltsalt$temoAzB1LMUGfs39YsEHhlSSY8ud5tjHcrE1ZINzi8TsesBqqjufdtA7fVhnojTHlBhKZVF0Q9wxWAcE707Cb0
+permit ()
 user eve
 login-hash $6$rounds=20000$saltsalt$temoAzB1LMUGfs39YsEHhlSSY8ud5tjHcrE1ZINzi8TsesBqqjufdtA7fVhnojTHlBhKZVF0Q9wxWAcE707Cb0
+permit ()
 
 $ tacd lint policy
 line 3 column 7: this text itself is the password: is a hash meant, as after 'login-hash'?
@@ -60,7 +63,7 @@ line 4 column 13: over 20000 rounds: each login takes a processor for 8 millisec
 status 5
 
 $ tacd check policy
-policy ok: 2 subjects, 0 rules
+policy ok: 2 subjects, 2 rules
 none
 
 file policy
@@ -82,7 +85,7 @@ loginhash $6$saltsalt$temoAzB1LMUGfs39YsEHhlSSY8ud5tjHcrE1ZINzi8TsesBqqjufdtA7fV
 
 $ tacd lint policy
 line 3 column 1: refused: 1 BadLine: this is a setting of users, and it stands under a group
-line 5 column 12: refused: 6 BadValue
+line 5 column 12: refused: 6 BadValue: only a hash that 'openssl passwd -6' makes is taken, without quotes
 line 6 column 1: refused: 1 BadLine: no line of a policy begins with this word: is 'login-hash' meant?
 status 1
 
@@ -174,10 +177,10 @@ line 3 column 1: refused: 1 BadLine: a value is missing at its end
 line 4 column 1: refused: 1 BadLine: after 'refuse' one service may follow, and nothing else
 line 5 column 9: refused: 1 BadLine: it ends with a space
 line 6 column 9: refused: 1 BadLine: two spaces in a row, where words are set apart by one
-line 7 column 9: refused: 2 BadName
-line 8 column 9: refused: 2 BadName
-line 9 column 13: refused: 6 BadValue
-line 10 column 8: refused: 6 BadValue
+line 7 column 10: refused: 2 BadName: this byte may not stand in a name: A-Z a-z 0-9 _ - . @ may
+line 8 column 9: refused: 2 BadName: a service is NAME or NAME/PROTOCOL, and 'shell' has no protocol
+line 9 column 13: refused: 6 BadValue: an attribute is NAME=VALUE or NAME*VALUE, of at most 255 symbols
+line 10 column 8: refused: 6 BadValue: a shell is refused by a rule, as by 'deny ()'
 line 11 column 1: refused: 1 BadLine: no line of a policy begins with this word: is 'service' meant?
 line 12 column 1: refused: 1 BadLine: no line of a policy begins with this word: is 'refuse' meant?
 line 13 column 1: a keyword in capitals: keywords are in lower case
@@ -219,8 +222,8 @@ user eve in ops
 login x
 
 $ tacd lint policy
-line 3 column 9: no shell starts here: none of its users is permitted the empty line
-line 8 column 9: no shell starts here: none of its users is permitted the empty line
+line 3 column 9: no shell starts here: none of its users is permitted the empty line, as by 'permit ()'
+line 8 column 9: no shell starts here: none of its users is permitted the empty line, as by 'permit ()'
 status 5
 
 # One user of the group may start one.
@@ -237,7 +240,7 @@ login x
 |  service shell timeout=5|
 
 $ tacd lint policy
-line 10 column 11: no shell starts here: none of its users is permitted the empty line
+line 10 column 11: no shell starts here: none of its users is permitted the empty line, as by 'permit ()'
 status 5
 
 # A rule denies it, before one that permits it.
@@ -252,7 +255,7 @@ user bob in ops
 login x
 
 $ tacd lint policy
-line 3 column 9: no shell starts here: none of its users is permitted the empty line
+line 3 column 9: no shell starts here: none of its users is permitted the empty line, as by 'permit ()'
 status 5
 
 # A service of a shell that gives nothing, one that no shell is asked for, and a group without users.
@@ -280,7 +283,7 @@ login x
 service shell shell:roles="a
 
 $ tacd lint policy
-line 4 column 9: no shell starts here: none of its users is permitted the empty line
+line 4 column 9: no shell starts here: none of its users is permitted the empty line, as by 'permit ()'
 line 4 column 15: devices that don't know it refuse the shell: is '*' meant in place of '='?
 line 4 column 27: an odd number of '"': is one more meant, or one less?
 status 5
@@ -299,8 +302,8 @@ user eve in staff
 login x
 
 $ tacd lint policy
-line 3 column 9: no shell starts here: none of its users is permitted the empty line
-line 4 column 9: no shell starts here: none of its users is permitted the empty line
+line 3 column 9: no shell starts here: none of its users is permitted the empty line, as by 'permit ()'
+line 4 column 9: no shell starts here: none of its users is permitted the empty line, as by 'permit ()'
 status 5
 
 file policy

@@ -2,13 +2,12 @@
 -- itself, in a text of the same version: as the only one, or after one that begins a subject.
 use Rattle.std.specs.Prelude.{ℕ, ◌+◌, List, [], ◌∷◌, ◌++◌, ◌==◌, length, drop, map, codes, Bool}
 use Rattle.std.specs.Prelude.{true, false}
-use Rattle.std.specs.Prelude.{nat_lt, not, is_some, ◌&&◌, Option, Some, None, Result, Ok, Err}
+use Rattle.std.specs.Prelude.{nat_lt, not, ◌&&◌, Option, Some, None, Result, Ok, Err}
 use Rattle.std.specs.Prelude.{if◌then◌else◌}
 use Rattle.std.specs.Char.{to_ascii_lowercase}
 use Rattle.std.specs.Str.{is_utf8}
 use Rattle.basics.specs.Symbol.{is_symbol, is_text}
 use Rattle.basics.specs.Lines.{without_leading_spaces}
-use Rattle.pol_names.specs.Name.{name_of}
 use Rattle.pol_names.specs.declared.subject_id.Kind.{Kind}
 use Rattle.pol_names.specs.declared.subject_id.Kind.TheVariants.{Group, User}
 use Rattle.pol_pattern.specs.declared.fault.PatternFault.{PatternFault}
@@ -21,9 +20,11 @@ use Rattle.pol_text.specs.declared.fault.PolicyFault.TheVariants as policies
 use Rattle.pol_text.specs.declared.fault.PolicyRefusal.{PolicyRefusal}
 use Rattle.pol_text.specs.declared.fault.PolicyRefusal.TheVariants.{BadLine, BadName, BadPattern}
 use Rattle.pol_text.specs.declared.fault.PolicyRefusal.TheVariants.{BadValue, NoSuchParent, Cycle}
+use Rattle.pol_text.specs.declared.fault.PolicyRefusal.TheVariants.{NoSubject}
 use Rattle.pol_text.specs.Text.{policy_of, version_line, third_line, Body}
-use Rattle.pol_lint.specs.Words.{column_of, noted, begins, words_of, words_in, parent_text}
-use Rattle.pol_lint.specs.Words.{keyword_of}
+use Rattle.pol_lint.specs.Words.{column_of, noted, begins, words_of, words_in, keyword_of}
+use Rattle.pol_lint.specs.Names.{name_told}
+use Rattle.pol_lint.specs.Values.{value_reason}
 use Rattle.pol_lint.specs.Reasons.{line_reason, reason_column}
 use Rattle.pol_lint.specs.declared.words.Keyword.{Keyword}
 use Rattle.pol_lint.specs.declared.words.Keyword.TheVariants.{Opens, Service, Nothing}
@@ -123,12 +124,6 @@ place_in (patterns.BadEscape place) = place
 place_in (patterns.BadRepeat place) = place
 place_in _ = 0
 
--- a name that is wrong: the subject's, or where that is right its parent's
-abbrev pub name_column : List ℕ → List ℕ → ℕ
-name_column line rest =
-    if is_some (name_of (words_of rest).0) then column_of line (parent_text rest)
-    else column_of line rest
-
 -- a value that is wrong: an attribute, or else all that comes after the first word
 abbrev pub value_column : List ℕ → Keyword → List ℕ → ℕ
 value_column line Service rest =
@@ -136,25 +131,35 @@ value_column line Service rest =
     else column_of line rest
 value_column line _ rest = column_of line rest
 
--- where it is: in the pattern, at the name, at the value, or at the first word
-abbrev pub refusal_column : List ℕ → PolicyRefusal → ℕ
-refusal_column line (BadPattern fault) = column_of line (drop (place_in fault) (words_in line).1)
-refusal_column line BadName = name_column line (words_in line).1
-refusal_column line BadValue =
-    value_column line (keyword_of (words_in line).0) (words_in line).1
-refusal_column line _ = column_of line (without_leading_spaces line)
-
 -- why it isn't a line of a policy
 abbrev pub reason_of : TextVersion → List ℕ → LineReason
 reason_of version line = line_reason version (without_leading_spaces line)
 
+-- a value that is wrong, of a line that says this, by its first word and what comes after it
+abbrev pub value_told : List ℕ → Keyword → List ℕ × List ℕ → ℕ × Finding
+value_told line says words =
+    (value_column line says words.1, findings.BadValue (value_reason words.0 says words.1))
+
+-- where a refusal is told, and how: in the pattern, at the name, at the value, or at the first word
+abbrev pub other_told : List ℕ → PolicyRefusal → ℕ × Finding
+other_told line (BadPattern fault) =
+    (column_of line (drop (place_in fault) (words_in line).1), Refused (BadPattern fault))
+other_told line BadName = name_told line (keyword_of (words_in line).0) (words_in line).1
+other_told line BadValue = value_told line (keyword_of (words_in line).0) (words_in line)
+other_told line NoSubject = (column_of line (without_leading_spaces line), findings.NoSubject)
+other_told line refusal = (column_of line (without_leading_spaces line), Refused refusal)
+
+-- of a line that isn't one of a policy, at its reason
+abbrev pub refusal_told : TextVersion → List ℕ → PolicyRefusal → ℕ × Finding
+refusal_told version line BadLine =
+    (reason_column line (reason_of version line), findings.BadLine (reason_of version line))
+refusal_told version line refusal = other_told line refusal
+
 abbrev pub refusal_remarks : TextVersion → ℕ → List ℕ → Option PolicyRefusal → List Remark
 refusal_remarks version number line None = []
-refusal_remarks version number line (Some BadLine) =
-    noted number (reason_column line (reason_of version line))
-    (Some (findings.BadLine (reason_of version line)))
 refusal_remarks version number line (Some refusal) =
-    noted number (refusal_column line refusal) (Some (Refused refusal))
+    noted number (refusal_told version line refusal).0
+    (Some (refusal_told version line refusal).1)
 
 -- of a line of symbols
 abbrev pub text_faults : TextVersion → Option Kind → ℕ → List ℕ → List Remark

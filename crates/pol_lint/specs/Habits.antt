@@ -1,8 +1,10 @@
 -- Habits of other pattern languages: what is a symbol here and stands for something else there, and
 -- spaces that nobody sees.
 use Rattle.std.specs.Prelude.{ℕ, List, [], ◌∷◌, ◌++◌, ◌==◌, length, codes, nat_le, nat_lt, Bool}
-use Rattle.std.specs.Prelude.{false, not, ◌&&◌, ◌||◌, Option, Some, None, if◌then◌else◌}
+use Rattle.std.specs.Prelude.{false, not, ◌&&◌, ◌||◌, Option, Some, None, option_map}
+use Rattle.std.specs.Prelude.{if◌then◌else◌}
 use Rattle.std.specs.Option.{option_or, option_map_or}
+use Rattle.ios_words.specs.Abbreviations.{abbreviation_in}
 use Rattle.sha_crypt.specs.HashText.{hash_of}
 use Rattle.sha_crypt.specs.Passing.{rounds_of}
 use Rattle.pol_pattern.specs.declared.version.Version.{Version}
@@ -14,7 +16,8 @@ use Rattle.pol_lint.specs.declared.place.Place.TheVariants.{Outside, Class}
 use Rattle.pol_lint.specs.declared.finding.Finding.{Finding}
 use Rattle.pol_lint.specs.declared.finding.Finding.TheVariants.{Caret, Dollar, Digit, WordByte}
 use Rattle.pol_lint.specs.declared.finding.Finding.TheVariants.{Space, NamedClass, Count, Comment}
-use Rattle.pol_lint.specs.declared.finding.Finding.TheVariants.{BlankBefore, BlankAfter}
+use Rattle.pol_lint.specs.declared.finding.Finding.TheVariants.{BlankBefore, BlankAfter, Quoted}
+use Rattle.pol_lint.specs.declared.finding.Finding.TheVariants.{Abbreviated}
 use Rattle.pol_lint.specs.declared.finding.Finding.TheVariants.{HashInClear, ManyRounds}
 use Rattle.pol_lint.specs.declared.remark.Remark.{Remark}
 
@@ -75,9 +78,27 @@ blank_before text = if begins text (codes " ") then Some BlankBefore else None
 abbrev pub blank_after : List ℕ → Option Finding
 blank_after text = if ends text (codes " ") then Some BlankAfter else None
 
--- `^` at a pattern's beginning
+-- between quotes of one kind
+abbrev pub is_between : List ℕ → List ℕ → Bool
+is_between text quote =
+    nat_lt 1 (length text) && begins text quote && ends text quote
+
+abbrev pub is_quoted : List ℕ → Bool
+is_quoted text = is_between text (codes "\"") || is_between text (codes "'")
+
+-- a secret or a pattern in quotes, or one that begins with a space
+abbrev pub wrapped : List ℕ → Option Finding
+wrapped text = if is_quoted text then Some Quoted else blank_before text
+
+-- words that a device expands before it asks
+abbrev pub short_habit : List ℕ → Option Finding
+short_habit pattern = option_map Abbreviated (abbreviation_in pattern)
+
+-- at a pattern's beginning: `^`, quotes or a space, or such words
 abbrev pub first_habit : List ℕ → Option Finding
-first_habit pattern = if begins pattern (codes "^") then Some Caret else blank_before pattern
+first_habit pattern =
+    if begins pattern (codes "^") then Some Caret
+    else option_or (wrapped pattern) (short_habit pattern)
 
 -- whether the last symbol stands after a `\` that says that it is meant; `\\` means a `\` itself
 abbrev pub ends_quoted : Bool → List ℕ → Bool
@@ -105,9 +126,9 @@ looks_hashed (sign ∷ []) = false
 looks_hashed (sign ∷ first ∷ rest) =
     (sign == 36 && (is_digit first || is_letter first)) && ends_scheme rest
 
--- a secret in the clear that looks like a hash, or begins with a space
+-- a secret in the clear that looks like a hash, is in quotes, or begins with a space
 abbrev pub secret_habit : List ℕ → Option Finding
-secret_habit secret = if looks_hashed secret then Some HashInClear else blank_before secret
+secret_habit secret = if looks_hashed secret then Some HashInClear else wrapped secret
 
 -- a hash of so many rounds that a login by it takes long
 abbrev pub rounds_finding : List ℕ → Option Finding

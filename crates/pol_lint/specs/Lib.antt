@@ -11,3 +11,5 @@ pub mod Remarks
 pub mod Faults
 pub mod Searches
 pub mod Chains
+pub mod Names
+pub mod Values

@@ -1,20 +1,21 @@
 -- What is right in a policy and probably not meant (docs/REVIEW.md).
 use Rattle.std.specs.Prelude.{ℕ, ◌+◌, ◌-◌, ◌^◌, List, [], ◌∷◌, ◌++◌, ◌==◌, length, nat_eq}
-use Rattle.std.specs.Prelude.{min, Bool, true}
-use Rattle.std.specs.Prelude.{not, is_some, ◌&&◌, Option, Some, None, option_map}
+use Rattle.std.specs.Prelude.{nat_lt, min, codes, Bool, true, false}
+use Rattle.std.specs.Prelude.{not, is_some, ◌&&◌, ◌||◌, Option, Some, None, option_map}
 use Rattle.std.specs.Prelude.{if◌then◌else◌}
 use Rattle.std.specs.Option.{option_map_or}
 use Rattle.std.specs.List.{list_any, flat_map}
+use Rattle.std.specs.Str.{bytes_eq}
 use Rattle.basics.specs.Lines.{lines_of}
 use Rattle.pol_names.specs.Name.{name_of}
-use Rattle.pol_names.specs.SubjectId.{same_id}
+use Rattle.pol_names.specs.SubjectId.{same_id, same_kind}
 use Rattle.pol_names.specs.declared.subject_id.Kind.{Kind}
 use Rattle.pol_names.specs.declared.subject_id.Kind.TheVariants.{Group, User}
 use Rattle.pol_names.specs.declared.subject_id.SubjectId.{SubjectId}
 use Rattle.pol_pattern.specs.declared.version.Version.{Version}
 use Rattle.pol_pattern.specs.declared.version.Version.TheVariants.{Two}
 use Rattle.pol_text.specs.declared.subject.Subject.{Subject}
-use Rattle.pol_text.specs.Policy.{find_subject}
+use Rattle.pol_text.specs.Policy.{find_subject, level_of, max_level}
 use Rattle.pol_text.specs.Text.{body_of}
 use Rattle.pol_text.specs.Versions.{patterns_of}
 use Rattle.pol_text.specs.Change.{is_parent}
@@ -22,13 +23,15 @@ use Rattle.pol_meaning.specs.declared.Shadowed.{Shadowed}
 use Rattle.pol_lint.specs.Words.{column_of, noted, words_of, words_in, keyword_of}
 use Rattle.pol_lint.specs.Habits.{pattern_habits, secret_habits, rounds_finding}
 use Rattle.pol_lint.specs.Services.{service_remarks}
-use Rattle.pol_lint.specs.Shells.{closed, shell_finding}
+use Rattle.pol_lint.specs.Shells.{closed, closed_finding, shell_finding, login_finding}
 use Rattle.pol_lint.specs.Endings.{names_end, lacks_end}
 use Rattle.pol_lint.specs.declared.words.Keyword.{Keyword}
 use Rattle.pol_lint.specs.declared.words.Keyword.TheVariants.{Opens, Secret, Hash, Service, Rule}
+use Rattle.pol_lint.specs.declared.words.Keyword.TheVariants.{Level}
 use Rattle.pol_lint.specs.declared.finding.Finding.{Finding}
 use Rattle.pol_lint.specs.declared.finding.Finding.TheVariants.{NoEnd, NoEnds, NoSubjects}
-use Rattle.pol_lint.specs.declared.finding.Finding.TheVariants.{NoMembers, NoLogin}
+use Rattle.pol_lint.specs.declared.finding.Finding.TheVariants.{NoMembers, NoLogin, DefaultUser}
+use Rattle.pol_lint.specs.declared.finding.Finding.TheVariants.{Enables}
 use Rattle.pol_lint.specs.declared.finding.Finding.TheVariants as findings
 use Rattle.pol_lint.specs.declared.remark.Remark.{Remark}
 use Rattle.pol_lint.specs.declared.remarks.Present.{Present}
@@ -72,17 +75,57 @@ after present (Opens kind) rest = opened kind rest
 after present Rule rest = with_rule present
 after present _ rest = present
 
+-- the login of the subject with this name
+abbrev pub subject_login : List Subject → List SubjectId → SubjectId → Option Finding
+subject_login policy shut id =
+    option_map_or (login_finding policy shut) (find_subject id policy) None
+
 abbrev pub can_log_in : List Subject → SubjectId → Bool
 can_log_in policy user = option_map_or (λ user. is_some user.login) (find_subject user policy) true
 
--- a group that is nobody's parent, or a user without a login
-abbrev pub lacks : List Subject → Kind → SubjectId → Option Finding
-lacks policy Group id = if is_parent id.name policy then None else Some NoMembers
-lacks policy User id = if can_log_in policy id then None else Some NoLogin
+-- a group that is nobody's parent, or a user without a login; or logins for a shell that doesn't
+-- start
+abbrev pub lacks : List Subject → List SubjectId → Kind → SubjectId → Option Finding
+lacks policy shut Group id =
+    if is_parent id.name policy then subject_login policy shut id else Some NoMembers
+lacks policy shut User id =
+    if can_log_in policy id then subject_login policy shut id else Some NoLogin
 
-abbrev pub subject_finding : List Subject → Option Present → Option Finding
-subject_finding policy None = None
-subject_finding policy (Some present) = lacks policy present.owner.kind present.owner
+abbrev pub subject_finding : List Subject → List SubjectId → Option Present → Option Finding
+subject_finding policy shut None = None
+subject_finding policy shut (Some present) =
+    lacks policy shut present.owner.kind present.owner
+
+-- a user of the name that tac_plus has for all other users
+abbrev pub default_finding : Option Present → Option Finding
+default_finding None = None
+default_finding (Some present) =
+    if same_kind present.owner.kind User && bytes_eq present.owner.name (codes "DEFAULT")
+    then Some DefaultUser else None
+
+-- ---- settings
+
+-- a level under which no shell starts
+abbrev pub level_finding : List SubjectId → Option Present → Option Finding
+level_finding shut None = None
+level_finding shut (Some present) = closed_finding shut present.owner
+
+-- a line sets what a user enables with
+abbrev pub sets_enable : List ℕ → Bool
+sets_enable line =
+    bytes_eq (words_in line).0 (codes "enable") || bytes_eq (words_in line).0 (codes "enable-hash")
+
+abbrev pub is_low : Option ℕ → Bool
+is_low None = false
+is_low (Some level) = nat_lt level max_level
+
+-- a user enables, and the shells' level is below the highest
+abbrev pub enable_finding : List Subject → Option Present → List ℕ → Option Finding
+enable_finding policy None line = None
+enable_finding policy (Some present) line =
+    if sets_enable line && is_low (level_of policy present.owner) then Some Enables else None
+
+-- ---- rules
 
 -- the rules that decide no line of their owners, and so of nobody
 abbrev pub hidden_by : Shadowed → List Present
@@ -124,11 +167,16 @@ present_finding shut (Some present) rest = shell_finding shut present.owner rest
 abbrev pub remarks_by : Version → List Subject → Bool → List SubjectId → List Present
     → Option Present → ℕ → List ℕ → Keyword → List ℕ → List Remark
 remarks_by version policy others shut hidden present number line (Opens kind) rest =
-    noted number (column_of line rest) (subject_finding policy present)
+    noted number (column_of line rest) (default_finding present)
+    ++ noted number (column_of line rest) (subject_finding policy shut present)
 remarks_by version policy others shut hidden present number line Secret rest =
-    secret_habits number line rest
+    noted number (column_of line rest) (enable_finding policy present line)
+    ++ secret_habits number line rest
 remarks_by version policy others shut hidden present number line Hash rest =
-    noted number (column_of line rest) (rounds_finding rest)
+    noted number (column_of line rest) (enable_finding policy present line)
+    ++ noted number (column_of line rest) (rounds_finding rest)
+remarks_by version policy others shut hidden present number line Level rest =
+    noted number (column_of line rest) (level_finding shut present)
 remarks_by version policy others shut hidden present number line Service rest =
     noted number (column_of line rest) (present_finding shut present rest)
     ++ service_remarks number line rest

@@ -4,14 +4,17 @@ ghost use Rattle.std.specs.Prelude.{◌≡◌, ◌++◌, [], drop, IfOk, OnOk};
 ghost use Rattle.std.specs.Str.{is_utf8 as utf8_test};
 ghost use Rattle.basics.specs.Lines.{lines_of};
 ghost use Rattle.pol_text.specs.Text.{body_of as body_wanted};
+ghost use Rattle.pol_text.specs.declared.fault.PolicyRefusal.TheVariants.{BadLine};
 ghost use Rattle.pol_lint.specs.Faults as faults;
 
 use crate::finding::Finding;
+use crate::names::name_told;
 use crate::reason::{line_reason, reason_column};
 use crate::remark::{Remark, column_of, note};
-use crate::words::{Keyword, keyword_of, parent_text, words_in, words_of};
+use crate::values::value_reason;
+use crate::words::{Keyword, keyword_of, words_in, words_of};
 use basics::{Sequence, is_symbol, is_text, without_leading_spaces};
-use pol_names::{Kind, Name};
+use pol_names::Kind;
 use pol_pattern::PatternFault;
 use pol_text::{Policy, PolicyFault, PolicyRefusal, TextVersion, body_of};
 use std::alloc::{AllocError, Global};
@@ -182,18 +185,6 @@ fn after_first(text: &[u8], count: usize) -> &[u8]
     }
 }
 
-// A name that is wrong: the subject's, or where that is right its parent's.
-fn name_column(line: &[u8], rest: &[u8]) -> usize
-    ensures { result ≡ faults.name_column line.now rest.now }
-{
-    let (name, _) = words_of(rest);
-    if Name::read(name).is_some() {
-        column_of(line, parent_text(rest))
-    } else {
-        column_of(line, rest)
-    }
-}
-
 // A value that is wrong: an attribute, or else all that comes after the first word.
 fn value_column(line: &[u8], says: Keyword, rest: &[u8]) -> usize
     ensures { result ≡ faults.value_column line.now says rest.now }
@@ -205,15 +196,57 @@ fn value_column(line: &[u8], says: Keyword, rest: &[u8]) -> usize
     }
 }
 
-fn refusal_column(line: &[u8], refusal: PolicyRefusal) -> usize
-    ensures { result ≡ faults.refusal_column line.now refusal }
+fn value_told(line: &[u8], says: Keyword, word: &[u8], rest: &[u8]) -> (usize, Finding)
+    ensures { result ≡ faults.value_told line.now says (word.now, rest.now) }
+{
+    (
+        value_column(line, says, rest),
+        Finding::BadValue(value_reason(word, says, rest)),
+    )
+}
+
+// Where a refusal of a line that has the form of one is told, and how.
+fn other_told(line: &[u8], refusal: PolicyRefusal) -> (usize, Finding)
+    ensures { result ≡ faults.other_told line.now refusal }
 {
     let (word, rest) = words_in(line);
+    let said = column_of(line, without_leading_spaces(line));
     match refusal {
-        PolicyRefusal::BadPattern(fault) => column_of(line, after_first(rest, place_in(fault))),
-        PolicyRefusal::BadName => name_column(line, rest),
-        PolicyRefusal::BadValue => value_column(line, keyword_of(word), rest),
-        _ => column_of(line, without_leading_spaces(line)),
+        PolicyRefusal::BadPattern(fault) => {
+            let column = column_of(line, after_first(rest, place_in(fault)));
+            (column, Finding::Refused(refusal))
+        }
+        PolicyRefusal::BadName => name_told(line, keyword_of(word), rest),
+        PolicyRefusal::BadValue => value_told(line, keyword_of(word), word, rest),
+        PolicyRefusal::NoSubject => (said, Finding::NoSubject),
+        refusal => (said, Finding::Refused(refusal)),
+    }
+}
+
+// Where a line is told of that isn't one of a policy, and why.
+fn form_told(
+    alloc: Global,
+    version: TextVersion,
+    line: &[u8],
+) -> Result<(usize, Finding), AllocError>
+    ensures { IfOk result (λ told. told ≡ faults.refusal_told version line.now BadLine) }
+{
+    let reason = line_reason(alloc, version, without_leading_spaces(line))?;
+    Ok((reason_column(line, reason), Finding::BadLine(reason)))
+}
+
+// Where a refusal is told, and how.
+fn refusal_told(
+    alloc: Global,
+    version: TextVersion,
+    line: &[u8],
+    refusal: PolicyRefusal,
+) -> Result<(usize, Finding), AllocError>
+    ensures { IfOk result (λ told. told ≡ faults.refusal_told version line.now refusal) }
+{
+    match refusal {
+        PolicyRefusal::BadLine => form_told(alloc, version, line),
+        refusal => Ok(other_told(line, refusal)),
     }
 }
 
@@ -231,14 +264,9 @@ fn note_refusal(
         (faults.refusal_of version present line.now)) }
 {
     match refusal_of(alloc, version, present, line)? {
-        Some(PolicyRefusal::BadLine) => {
-            let reason = line_reason(alloc, version, without_leading_spaces(line))?;
-            let column = reason_column(line, reason);
-            note(remarks, number, column, Some(Finding::BadLine(reason)))
-        }
         Some(refusal) => {
-            let column = refusal_column(line, refusal);
-            note(remarks, number, column, Some(Finding::Refused(refusal)))
+            let (column, finding) = refusal_told(alloc, version, line, refusal)?;
+            note(remarks, number, column, Some(finding))
         }
         None => Ok(()),
     }

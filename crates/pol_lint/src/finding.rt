@@ -3,7 +3,10 @@
 ghost use Rattle.std.specs.Prelude.{Some};
 ghost use Rattle.pol_lint.specs.FindingText.{finding_text};
 
+use crate::names::NameReason;
 use crate::reason::LineReason;
+use crate::values::ValueReason;
+use ios_words::Abbreviation;
 use pol_names::Name;
 use pol_text::PolicyRefusal;
 use std::fmt;
@@ -27,6 +30,10 @@ pub enum Finding {
     Count,
     /// A pattern has ` # `.
     Comment,
+    /// A pattern begins with words that Cisco IOS expands.
+    Abbreviated(Abbreviation),
+    /// A secret or a pattern is in quotes.
+    Quoted,
     /// A secret or a pattern begins with a space.
     BlankBefore,
     /// A secret, an attribute or a pattern ends with a space.
@@ -35,13 +42,15 @@ pub enum Finding {
     HashInClear,
     /// A hash has over 20,000 rounds.
     ManyRounds,
+    /// A user whose level is below 15 may enable.
+    Enables,
     /// A service is called as tac_plus calls the shell.
     Exec,
     /// A shell has a mandatory attribute that not all devices know.
     Mandatory,
     /// An attribute has an odd number of quotation marks.
     OddQuotes,
-    /// Nobody may start the shell that an attribute is given to.
+    /// Nobody may start the shell that a level or an attribute is for, or a login.
     NoShell,
     /// A rule doesn't end in ` <cr>`, where others do.
     NoEnd,
@@ -53,6 +62,8 @@ pub enum Finding {
     NoMembers,
     /// A user has no login.
     NoLogin,
+    /// A user has the name that tac_plus has for all others.
+    DefaultUser,
     /// A rule decides no line.
     Shadowed,
     /// A carriage return.
@@ -69,6 +80,12 @@ pub enum Finding {
     Capitals,
     /// It isn't a line of a policy.
     BadLine(LineReason),
+    /// A name, or a service, is invalid.
+    BadName(NameReason),
+    /// A value is invalid.
+    BadValue(ValueReason),
+    /// A line that is said of a subject stands before any.
+    NoSubject,
     /// What else is wrong, as a check names it.
     Refused(PolicyRefusal),
     /// The parent of this name is no group of the policy.
@@ -124,6 +141,13 @@ impl fmt::Display for Finding {
                     "'#' is a symbol here, and begins no comment after a rule: is it meant?"
                 )
             }
+            Finding::Abbreviated(abbreviation) => {
+                write!(
+                    f,
+                    "Cisco IOS expands {abbreviation} before it asks: is that meant?"
+                )
+            }
+            Finding::Quoted => { write!(f, "the quotes round it are part of it: are they meant?") }
             Finding::BlankBefore => write!(f, "it begins with a space: is that meant?"),
             Finding::BlankAfter => write!(f, "it ends with a space: is that meant?"),
             Finding::HashInClear => {
@@ -136,6 +160,12 @@ impl fmt::Display for Finding {
                 write!(
                     f,
                     "over 20000 rounds: each login takes a processor for 8 milliseconds or more"
+                )
+            }
+            Finding::Enables => {
+                write!(
+                    f,
+                    "enabling gives any level, whatever 'priv' says: is that meant?"
                 )
             }
             Finding::Exec => write!(f, "tac_plus calls the shell so: is 'shell' meant?"),
@@ -151,7 +181,7 @@ impl fmt::Display for Finding {
             Finding::NoShell => {
                 write!(
                     f,
-                    "no shell starts here: none of its users is permitted the empty line"
+                    "no shell starts here: none of its users is permitted the empty line, as by 'permit ()'"
                 )
             }
             Finding::NoEnd => {
@@ -174,6 +204,12 @@ impl fmt::Display for Finding {
             }
             Finding::NoMembers => write!(f, "nobody is in this group: is that meant?"),
             Finding::NoLogin => write!(f, "this user has no login: is that meant?"),
+            Finding::DefaultUser => {
+                write!(
+                    f,
+                    "tac_plus has this name for all other users, and here it is one user's: is that meant?"
+                )
+            }
             Finding::Shadowed => {
                 write!(
                     f,
@@ -202,6 +238,14 @@ impl fmt::Display for Finding {
                 )
             }
             Finding::BadLine(reason) => write!(f, "refused: 1 BadLine: {reason}"),
+            Finding::BadName(reason) => write!(f, "refused: 2 BadName: {reason}"),
+            Finding::BadValue(reason) => write!(f, "refused: 6 BadValue: {reason}"),
+            Finding::NoSubject => {
+                write!(
+                    f,
+                    "refused: 4 NoSubject: no line 'group NAME' or 'user NAME' stands before it"
+                )
+            }
             Finding::Refused(refusal) => write!(f, "refused: {refusal}"),
             Finding::NoParent(name) => write!(f, "the policy has no group {name}"),
         }

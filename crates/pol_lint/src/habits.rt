@@ -8,6 +8,7 @@ use crate::finding::Finding;
 use crate::place::Place;
 use crate::remark::{Remark, column_of, note};
 use basics::Sequence;
+use ios_words::abbreviation_in;
 use pol_names::Hash;
 use pol_pattern::Version;
 use std::alloc::AllocError;
@@ -134,13 +135,49 @@ pub(crate) fn blank_after(text: &[u8]) -> Option<Finding>
     }
 }
 
+// Between quotes of one kind.
+fn is_between(text: &[u8], quote: &[u8]) -> bool
+    ensures { result ≡ habits.is_between text.now quote.now }
+{
+    text.len() > 1 && text.starts_with(quote) && text.ends_with(quote)
+}
+
+fn is_quoted(text: &[u8]) -> bool
+    ensures { result ≡ habits.is_quoted text.now }
+{
+    is_between(text, b"\"") || is_between(text, b"'")
+}
+
+// A secret or a pattern in quotes, or one that begins with a space.
+fn wrapped(text: &[u8]) -> Option<Finding>
+    ensures { result ≡ habits.wrapped text.now }
+{
+    if is_quoted(text) {
+        return Some(Finding::Quoted);
+    }
+    blank_before(text)
+}
+
 fn first_habit(pattern: &[u8]) -> Option<Finding>
     ensures { result ≡ habits.first_habit pattern.now }
 {
     if pattern.starts_with(b"^") {
         return Some(Finding::Caret);
     }
-    blank_before(pattern)
+    match wrapped(pattern) {
+        Some(finding) => Some(finding),
+        None => short_habit(pattern),
+    }
+}
+
+// Words that a device expands before it asks.
+fn short_habit(pattern: &[u8]) -> Option<Finding>
+    ensures { result ≡ habits.short_habit pattern.now }
+{
+    match abbreviation_in(pattern) {
+        Some(abbreviation) => Some(Finding::Abbreviated(abbreviation)),
+        None => None,
+    }
 }
 
 // Whether the last symbol stands after a `\` that says that it is meant.
@@ -237,7 +274,7 @@ fn secret_habit(secret: &[u8]) -> Option<Finding>
     if looks_hashed(secret) {
         return Some(Finding::HashInClear);
     }
-    blank_before(secret)
+    wrapped(secret)
 }
 
 // How many rounds a hash has at most without a remark.

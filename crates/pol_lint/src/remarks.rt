@@ -14,7 +14,8 @@ use crate::habits::{note_pattern, note_secret, rounds_finding};
 use crate::hidden::hidden_of;
 use crate::remark::{Remark, column_of, note};
 use crate::services::note_service;
-use crate::shells::{closed, shell_finding};
+use crate::settings::{default_finding, enable_finding, level_finding};
+use crate::shells::{closed, login_finding, shell_finding};
 use crate::words::{Keyword, keyword_of, words_in, words_of};
 use basics::{Lines, Sequence};
 use indexmap::IndexSet;
@@ -150,17 +151,51 @@ fn can_log_in(policy: &Policy, user: &SubjectId) -> bool
     }
 }
 
-fn subject_finding(policy: &Policy, present: Option<Present>) -> Option<Finding>
-    ensures { result ≡ wanted.subject_finding policy.now present }
+// The login of the subject with this name.
+fn subject_login(
+    alloc: Global,
+    policy: &Policy,
+    shut: &Sequence<SubjectId>,
+    id: &SubjectId,
+) -> Result<Option<Finding>, AllocError>
+    ensures { IfOk result (λ finding.
+        finding ≡ wanted.subject_login policy.now shut.now id.now) }
 {
-    let Some(Present { owner, .. }) = present else {
-        return None;
-    };
+    match policy.find(id) {
+        Some(subject) => login_finding(alloc, policy, shut, subject),
+        None => Ok(None),
+    }
+}
+
+fn lacks(
+    alloc: Global,
+    policy: &Policy,
+    shut: &Sequence<SubjectId>,
+    owner: &SubjectId,
+) -> Result<Option<Finding>, AllocError>
+    ensures { IfOk result (λ finding.
+        finding ≡ wanted.lacks policy.now shut.now owner.now.kind owner.now) }
+{
     match owner.kind {
-        Kind::Group if policy.is_parent(&owner.name) => None,
-        Kind::Group => Some(Finding::NoMembers),
-        Kind::User if can_log_in(policy, &owner) => None,
-        Kind::User => Some(Finding::NoLogin),
+        Kind::Group if policy.is_parent(&owner.name) => subject_login(alloc, policy, shut, owner),
+        Kind::Group => Ok(Some(Finding::NoMembers)),
+        Kind::User if can_log_in(policy, owner) => subject_login(alloc, policy, shut, owner),
+        Kind::User => Ok(Some(Finding::NoLogin)),
+    }
+}
+
+fn subject_finding(
+    alloc: Global,
+    policy: &Policy,
+    shut: &Sequence<SubjectId>,
+    present: Option<Present>,
+) -> Result<Option<Finding>, AllocError>
+    ensures { IfOk result (λ finding.
+        finding ≡ wanted.subject_finding policy.now shut.now present) }
+{
+    match present {
+        Some(present) => lacks(alloc, policy, shut, &present.owner),
+        None => Ok(None),
     }
 }
 
@@ -248,6 +283,25 @@ fn note_present(
     note_service(remarks, number, line, rest)
 }
 
+// Adds what is told of the subject whose name is at this column.
+fn note_subject(
+    alloc: Global,
+    remarks: &mut Sequence<Remark>,
+    known: &Known<'_>,
+    present: &Option<Present>,
+    number: usize,
+    place: usize,
+) -> Result<(), AllocError>
+    ensures { OnOk result (remarks.new ≡ remarks.old
+        ++ noted number place (wanted.default_finding present.now)
+        ++ noted number place
+        (wanted.subject_finding known.now.policy.now known.now.shut.now present.now)) }
+{
+    note(remarks, number, place, default_finding(*present))?;
+    let finding = subject_finding(alloc, known.policy, known.shut, *present)?;
+    note(remarks, number, place, finding)
+}
+
 // The present subject after a line.
 fn after_line(present: &Option<Present>, line: &[u8]) -> Option<Present>
     ensures { result ≡ wanted.after_line present.now line.now }
@@ -271,16 +325,23 @@ fn note_line(
         present.now number line.now) }
 {
     let (word, rest) = words_in(line);
+    let place = column_of(line, rest);
     match keyword_of(word) {
-        Keyword::Opens(_) => {
-            let finding = subject_finding(known.policy, *present);
-            note(remarks, number, column_of(line, rest), finding)
+        Keyword::Opens(_) => note_subject(alloc, remarks, known, present, number, place),
+        Keyword::Secret => {
+            let finding = enable_finding(known.policy, *present, line);
+            note(remarks, number, place, finding)?;
+            note_secret(remarks, number, line, rest)
         }
-        Keyword::Secret => note_secret(remarks, number, line, rest),
-        Keyword::Hash => note(remarks, number, column_of(line, rest), rounds_finding(rest)),
+        Keyword::Hash => {
+            let finding = enable_finding(known.policy, *present, line);
+            note(remarks, number, place, finding)?;
+            note(remarks, number, place, rounds_finding(rest))
+        }
+        Keyword::Level => note(remarks, number, place, level_finding(known.shut, *present)),
         Keyword::Rule => note_rule(alloc, remarks, known, *present, number, line, rest),
         Keyword::Service => note_present(remarks, known.shut, *present, number, line, rest),
-        Keyword::Level | Keyword::Nothing => Ok(()),
+        Keyword::Nothing => Ok(()),
     }
 }
 

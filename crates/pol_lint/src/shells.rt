@@ -1,4 +1,4 @@
-//! Attributes of a shell that nobody is given, since no shell starts.
+//! Levels and attributes of shells that nobody is given, and logins for shells, where no shell starts.
 
 ghost use Rattle.std.specs.Prelude.{◌≡◌, ◌++◌, OnOk, IfOk};
 ghost use Rattle.std.specs.List.{list_any};
@@ -124,6 +124,16 @@ pub(crate) fn closed(alloc: Global, policy: &Policy) -> Result<Sequence<SubjectI
     Ok(found)
 }
 
+/// What is told of a subject under which no shell starts, where it is one of these.
+pub(crate) fn closed_finding(shut: &Sequence<SubjectId>, owner: &SubjectId) -> Option<Finding>
+    ensures { result ≡ shells.closed_finding shut.now owner.now }
+{
+    if is_among(shut.as_slice(), owner) {
+        return Some(Finding::NoShell);
+    }
+    None
+}
+
 // Whether a line gives an attribute to the shell, by what comes after its first word.
 fn gives_shell(rest: &[u8]) -> bool
     ensures { result ≡ shells.gives_shell rest.now }
@@ -140,8 +150,108 @@ pub(crate) fn shell_finding(
 ) -> Option<Finding>
     ensures { result ≡ shells.shell_finding shut.now owner.now rest.now }
 {
-    if gives_shell(rest) && is_among(shut.as_slice(), owner) {
-        return Some(Finding::NoShell);
+    if gives_shell(rest) {
+        return closed_finding(shut, owner);
     }
     None
+}
+
+// Whether the subject has a line about a service.
+fn has_services(policy: &Policy, id: &SubjectId) -> bool
+    ensures { result ≡ shells.has_services policy.now id.now }
+{
+    match policy.find(id) {
+        Some(subject) => !subject.services.is_empty(),
+        None => false,
+    }
+}
+
+fn any_has_services(policy: &Policy, ids: &[SubjectId]) -> bool
+    ensures { result ≡ list_any (shells.has_services policy.now) ids.now }
+{
+    ids.iter().any(|id| has_services(policy, id))
+}
+
+// Whether a user's login is for shells alone.
+fn is_for_shells(alloc: Global, policy: &Policy, user: &Subject) -> Result<bool, AllocError>
+    ensures { IfOk result (λ is. is ≡ shells.is_for_shells policy.now user.now) }
+{
+    if user.login.is_none() {
+        return Ok(false);
+    }
+    let chain = policy.chain(alloc, &user.id())?;
+    Ok(!any_has_services(policy, chain.as_slice()))
+}
+
+fn logs_in_for(
+    alloc: Global,
+    policy: &Policy,
+    owner: &SubjectId,
+    subject: &Subject,
+) -> Result<bool, AllocError>
+    ensures { IfOk result (λ logs. logs ≡ shells.logs_in_for policy.now owner.now subject.now) }
+{
+    if is_user_of(alloc, policy, owner, subject)? {
+        return is_for_shells(alloc, policy, subject);
+    }
+    Ok(false)
+}
+
+// Whether a user of the owner logs in for shells.
+fn any_logs_in(alloc: Global, policy: &Policy, owner: &SubjectId) -> Result<bool, AllocError>
+    ensures { IfOk result (λ any.
+        any ≡ list_any (shells.logs_in_for policy.now owner.now) policy.now) }
+{
+    let subjects = policy.subjects();
+    'subjects: for subject in subjects {
+        if logs_in_for(alloc, policy, owner, subject)? {
+            return Ok(true);
+        }
+    }
+    Ok(false)
+}
+
+// Whether the parent is one of these.
+fn is_below(shut: &Sequence<SubjectId>, subject: &Subject) -> bool
+    ensures { result ≡ shells.is_below shut.now subject.now }
+{
+    match &subject.parent {
+        Some(name) => is_among(shut.as_slice(), &SubjectId::group(*name)),
+        None => false,
+    }
+}
+
+fn is_told(
+    alloc: Global,
+    policy: &Policy,
+    shut: &Sequence<SubjectId>,
+    subject: &Subject,
+) -> Result<bool, AllocError>
+    ensures { IfOk result (λ is. is ≡ shells.is_told policy.now shut.now subject.now) }
+{
+    if subject.priv_lvl.is_some() || is_below(shut, subject) {
+        return Ok(false);
+    }
+    any_logs_in(alloc, policy, &subject.id())
+}
+
+/// What is told of a subject whose users log in for shells that don't start. A look at all subjects,
+/// where it is one of these under which none starts.
+pub(crate) fn login_finding(
+    alloc: Global,
+    policy: &Policy,
+    shut: &Sequence<SubjectId>,
+    subject: &Subject,
+) -> Result<Option<Finding>, AllocError>
+    ensures { IfOk result (λ finding.
+        finding ≡ shells.login_finding policy.now shut.now subject.now) }
+{
+    let finding = closed_finding(shut, &subject.id());
+    if finding.is_none() {
+        return Ok(None);
+    }
+    if is_told(alloc, policy, shut, subject)? {
+        return Ok(finding);
+    }
+    Ok(None)
 }

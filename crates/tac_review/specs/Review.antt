@@ -14,13 +14,14 @@ use Rattle.tac_console.specs.ServiceAnswers.{service_lines}
 use Rattle.tac_console.specs.Faults.{fault_line}
 use Rattle.pol_live.specs.declared.judging.TextRefusal.{TextRefusal}
 use Rattle.tac_review.specs.Judged.{refusal_line, ByJudged, IsOnly}
-use Rattle.tac_review.specs.Asking.{question_of, service_question_of, answer_to}
+use Rattle.tac_review.specs.Asking.{question_of, service_question_of, answer_to, permission_of}
 use Rattle.tac_review.specs.Tables as tables
 use Rattle.tac_review.specs.Loading.{Loads}
 use Rattle.tac_review.specs.declared.task.Review.{Review}
 use Rattle.tac_review.specs.declared.task.Review.TheVariants.{Diff, Edits, Why, Given, Each}
 use Rattle.tac_review.specs.declared.task.ReviewEnd.{ReviewEnd}
 use Rattle.tac_review.specs.declared.task.ReviewEnd.TheVariants.{Done, Differs, BadPolicy, Refused}
+use Rattle.tac_review.specs.declared.task.ReviewEnd.TheVariants.{Answered}
 use Rattle.tac_review.specs.declared.task.Input.{Input}
 use Rattle.tac_review.specs.declared.task.Input.TheVariants.{First, Second}
 use Rattle.tac_review.specs.declared.task.Table.{Table}
@@ -78,7 +79,8 @@ ListsEdits name text old output end = ByJudged (EditsTo old name) text output en
 abbrev pub Explains : List Subject → Option Query → List ℕ → ReviewEnd → Type 0
 Explains policy None output end =
     (output ≡ fault_line (codes "BadQuestion")) × (end ≡ Refused)
-Explains policy (Some query) output end = (output ≡ answer_to policy query) × (end ≡ Done)
+Explains policy (Some query) output end =
+    (output ≡ answer_to policy query) × (end ≡ Answered (permission_of policy query))
 
 abbrev pub TellsOf : Table → List ℕ → Result (List ℕ) ℕ → List ℕ → ReviewEnd → Type 0
 TellsOf table name (Err number) output end =

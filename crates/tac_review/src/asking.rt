@@ -4,9 +4,10 @@ ghost use Rattle.std.specs.Prelude.{◌≡◌, ◌++◌, IfOk, OnOk};
 ghost use Rattle.tac_console.specs.Answers.{given_text};
 ghost use Rattle.tac_review.specs.Asking as asking;
 
-use pol_given::{Given, given};
+use crate::task::Permission;
+use pol_given::{Given, Grant, given};
 use pol_live::Live;
-use pol_names::{Decision, Name, ServiceId};
+use pol_names::{Decision, Name, ServiceId, Verdict};
 use std::alloc::{AllocError, Global};
 use tac_console::{Asked, read_console, write_query_answer};
 use tac_desk::{Query, Report};
@@ -58,6 +59,54 @@ pub(crate) fn given_to(
 {
     let decision = live.decide(user, b"");
     given(alloc, live.policy(), user, service, decision)
+}
+
+fn verdict_permission(verdict: Verdict) -> Permission
+    ensures { result ≡ asking.verdict_permission verdict }
+{
+    match verdict {
+        Verdict::Permit => Permission::Permitted,
+        Verdict::Deny => Permission::Denied,
+    }
+}
+
+fn line_permission(decision: Option<Decision>) -> Permission
+    ensures { result ≡ asking.line_permission decision }
+{
+    match decision {
+        Some(decision) => verdict_permission(decision.verdict),
+        None => Permission::Unknown,
+    }
+}
+
+fn grant_permission(grant: Grant) -> Permission
+    ensures { result ≡ asking.grant_permission grant }
+{
+    match grant {
+        Grant::UnknownUser => Permission::Unknown,
+        Grant::Granted(_) => Permission::Permitted,
+        Grant::Decided(decision) => verdict_permission(decision.verdict),
+        Grant::Refused(_) | Grant::Unserved => Permission::Denied,
+    }
+}
+
+/// Whether what is asked is permitted, or given.
+pub(crate) fn permission(
+    alloc: Global,
+    live: &Live,
+    query: &Query,
+) -> Result<Permission, AllocError>
+    ensures { IfOk result (λ permission.
+        permission ≡ asking.permission_of live.now query.now) }
+{
+    match query {
+        Query::Why { .. } => Ok(line_permission(decision(live, query))),
+        Query::Given { user, service } => {
+            let given = given_to(alloc, live, user, service)?;
+            Ok(grant_permission(given.grant))
+        }
+        _ => Ok(Permission::Denied),
+    }
 }
 
 /// Adds what the console answers where this is given to the user for the service.

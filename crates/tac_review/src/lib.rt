@@ -22,4 +22,4 @@ pub use judging::refusal_line;
 pub use linting::{LintEnd, lint};
 pub use reviewing::review;
 pub use tac_io::AnswerFault as CheckFault;
-pub use task::{Input, Review, ReviewEnd, ReviewFault, Table};
+pub use task::{Input, Permission, Review, ReviewEnd, ReviewFault, Table};

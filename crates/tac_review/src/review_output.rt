@@ -7,7 +7,7 @@ ghost use Rattle.tac_review.specs.Judged.{IsOnly};
 ghost use Rattle.tac_review.specs.Tables as tables;
 ghost use Rattle.tac_review.specs.Review as reviews;
 
-use crate::asking::{add_answer, question, service_question};
+use crate::asking::{add_answer, permission, question, service_question};
 use crate::judging::{judge, refusal_line};
 use crate::loading::load;
 use crate::table::tell;
@@ -133,7 +133,8 @@ fn explain(
     match query {
         Some(query) => {
             add_answer(alloc, &mut text, live, &query)?;
-            Ok((text, ReviewEnd::Done))
+            let permission = permission(alloc, live, &query)?;
+            Ok((text, ReviewEnd::Answered(permission)))
         }
         None => {
             text.extend_from_slice(b"fault BadQuestion\n")?;

@@ -27,11 +27,24 @@ pub enum Table {
     Cases,
 }
 
+/// What a question is answered, in a word.
+#[derive(Clone, Copy, Debug, PartialEq, Eq)]
+pub enum Permission {
+    /// The line is permitted, or the service is given.
+    Permitted,
+    /// It isn't.
+    Denied,
+    /// The policy has no such user.
+    Unknown,
+}
+
 /// How a review ended.
 #[derive(Clone, Copy, Debug, PartialEq, Eq)]
 pub enum ReviewEnd {
-    /// Nothing changes for anyone, each question was answered, or each case is so.
+    /// Nothing changes for anyone, each question of a table was answered, or each case is so.
     Done,
+    /// The question was answered.
+    Answered(Permission),
     /// Something changes for someone, or some case isn't so.
     Differs,
     /// Edits were printed, in so many batches.
