@@ -646,7 +646,10 @@ def files_of_any_name(program):
 
 
 def other_devices(program):
-    """Whatever comes of the file, it is no call, and a batch stays open."""
+    """Whatever comes of the file, it is no call, and a batch stays open. Standard error says why it is
+    refused."""
+    bits = "line 4 column 4: bits are set after the first 24: is '192.0.2.0/24' meant, or '192.0.2.1'?"
+    lacks = "line 1 column 1: this device has neither 'key' nor 'tls', or an 'old-key' and no 'key'"
     converses(
         program,
         """
@@ -675,6 +678,7 @@ def other_devices(program):
         > rotate
         rotated 0 entries 1
         """,
+        complained="".join(f"tacd: devices: {told}\n" for told in (bits, lacks)),
         key=("--devices", "devices"),
         devices=ONE,
     )
@@ -905,14 +909,15 @@ def a_service_that_is_refused(program):
             came = asks_all(program, server, lines)
             require(came == (answers, "", 0), f"{lines!r} ends by {came}")
         told(operator, ("why eve ping", "denied by default"))
-        for lines, answers, last in (
-            ("begin\nadd user ann\nnonsense\ncommit\n", "ok\nkept 1\n", "refused 1 BadEdit"),
-            ("begin\nadd user eve\ncommit\nshadow\n", "ok\nkept 1\n", "refused at edit 1: 3 Exists"),
+        help_named = "tacd: type help\n"
+        for lines, answers, last, more in (
+            ("begin\nadd user ann\nnonsense\ncommit\n", "ok\nkept 1\n", "refused 1 BadEdit", help_named),
+            ("begin\nadd user eve\ncommit\nshadow\n", "ok\nkept 1\n", "refused at edit 1: 3 Exists", ""),
         ):
             comes_to(lambda: operator.ask("begin"), "ok")  # once the batch before is dropped
             told(operator, ("abandon", "ok"))
             came = asks_all(program, server, lines)
-            said = f"tacd: line 3: {last}; later lines weren't sent\n"
+            said = f"tacd: line 3: {last}; later lines weren't sent\n{more}"
             require(came == (f"{answers}{last}\n", said, 1), f"{lines!r} ends by {came}")
         told(operator, ("why ann ping", "unknown user"))
         stops(server, operator)

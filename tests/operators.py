@@ -412,6 +412,17 @@ class Asking(Judged):
             time.sleep(self.seconds)
 
 
+def has_reader(place):
+    """Whether somebody reads a FIFO, as a process does that another case has just forked, until its
+    program begins."""
+    try:
+        os.close(os.open(place, os.O_WRONLY | os.O_NONBLOCK))
+        return True
+    except OSError as error:
+        require(error.errno == errno.ENXIO, f"the FIFO can't be opened: {error}")
+        return False
+
+
 def a_fifo_at_the_place(program):
     """As servers had one before. One that nobody reads is taken away. One that somebody reads stays: this
     machine may be busy, so there is a second more to see him."""
@@ -425,6 +436,7 @@ def a_fifo_at_the_place(program):
             server.ends(complained=why, status=4, is_listening=False)
         require(place.is_fifo(), "the FIFO is taken away")
         os.close(reader)
+        comes_to(lambda: has_reader(place), False)
         system = Asking(0)
         with Server(program, "--console", place, before=system.begin) as server, system:
             starts(server)

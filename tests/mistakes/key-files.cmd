@@ -18,6 +18,39 @@ tun␉dra
 
 $ tacd serve --port 1 --key-file bad-key nobody
 ! tacd: bad-key: its first line is not 1 to 128 printable ASCII characters
+! tacd: bad-key: line 1 column 4: a tab: is a space meant?
+status 2
+
+# Which byte keeps it from being a key is said, and never the key.
+file bad-key
+wintry-tundra-ridge-41␍
+
+$ tacd serve --port 1 --key-file bad-key nobody
+! tacd: bad-key: its first line is not 1 to 128 printable ASCII characters
+! tacd: bad-key: line 1 column 23: a carriage return: lines end in LF alone
+status 2
+
+file bad-key
+﻿wintry-tundra-ridge-41
+
+$ tacd serve --port 1 --key-file bad-key nobody
+! tacd: bad-key: its first line is not 1 to 128 printable ASCII characters
+! tacd: bad-key: line 1 column 1: a byte order mark: save the file without one
+status 2
+
+file bad-key
+schlüssel
+
+$ tacd serve --port 1 --key-file bad-key nobody
+! tacd: bad-key: its first line is not 1 to 128 printable ASCII characters
+! tacd: bad-key: line 1 column 5: a byte that isn't printable ASCII
+status 2
+
+file bad-key
+kkkkkkkkkkkkkkkkkkkkkkkkkkkkkkkkkkkkkkkkkkkkkkkkkkkkkkkkkkkkkkkkkkkkkkkkkkkkkkkkkkkkkkkkkkkkkkkkkkkkkkkkkkkkkkkkkkkkkkkkkkkkkkkkk
+
+$ tacd serve --port 1 --key-file bad-key nobody
+! tacd: bad-key: its first line is not 1 to 128 printable ASCII characters
 status 2
 
 file no-key

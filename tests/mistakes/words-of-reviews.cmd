@@ -29,7 +29,7 @@ status 2
 $ tacd given policy bob ppp ip
 ! error: unexpected argument 'ip' found
 !
-! Usage: tacd given <FILE> <USER> <SERVICE>
+! Usage: tacd given [OPTIONS] <FILE> <USER> <SERVICE>
 !
 ! For more information, try '--help'.
 status 2

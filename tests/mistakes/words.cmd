@@ -11,7 +11,7 @@ status 2
 
 $ tacd
 ! error: 'tacd' requires a subcommand but one was not provided
-!   [subcommands: serve, console, check, lint, diff, why, given, test, devices, import, replay, help]
+!   [subcommands: serve, console, ask, check, lint, diff, why, given, test, devices, import, replay, version, help]
 !
 ! Usage: tacd <COMMAND>
 !

@@ -18,8 +18,11 @@ const FOLDER_MODE: u32 = 0o700;
 /// The rights of a console's socket: its owner's alone.
 const MODE: u32 = 0o600;
 
+/// What is said where something else is in a socket's place.
+pub(crate) const NO_SOCKET: &str = "it is no socket";
+
 /// What is said where the folder can't be made, since something has its name.
-const TAKEN: &str = "something else is at this path with '.new' after it";
+pub(crate) const TAKEN: &str = "something else is at this path with '.new' after it";
 
 /// What the system does for consoles, and for a proxy's socket.
 pub trait ConsoleHost {
@@ -88,7 +91,7 @@ fn see_that_it_is_free<R: Files + Net>(rt: &R, path: &str) -> io::Result<()> {
         return Ok(());
     };
     if !metadata.file_type().is_socket() {
-        return Err(io::Error::new(ErrorKind::AlreadyExists, "it is no socket"));
+        return Err(io::Error::new(ErrorKind::AlreadyExists, NO_SOCKET));
     }
     match UnixStream::connect(rt, path) {
         Ok(_) => Err(io::Error::new(ErrorKind::AddrInUse, "a server is there already")),

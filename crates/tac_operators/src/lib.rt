@@ -11,10 +11,12 @@ mod lines;
 mod part;
 mod patience;
 mod session;
+mod socket_place;
 mod status;
 
 pub use attending::{Parting, attend};
 pub use console_socket::{ConsoleHost, ConsoleSocket};
 pub use exchange::{Exchange, ExchangeInput, ExchangeOutput};
 pub use patience::Patience;
+pub use socket_place::see_socket;
 pub use status::Status;
