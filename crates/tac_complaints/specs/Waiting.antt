@@ -1,4 +1,4 @@
--- Complaints that wait to be written (docs/SERVE.md, "What standard error says").
+-- Complaints that wait to be written (docs/REFERENCE.md, "What standard error says").
 use Rattle.std.specs.Prelude.{◌≡◌, ◌≢◌, ℕ, suc, ◌==◌, Bool, ◌&&◌, nat_lt, List, [], ◌∷◌}
 use Rattle.std.specs.Prelude.{◌++◌, length, ◌^◌, ◌-◌, Option, Some, None, if◌then◌else◌}
 use Rattle.tac_complaints.specs.declared.waiting.Told.{Told}

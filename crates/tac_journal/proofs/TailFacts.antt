@@ -1,8 +1,9 @@
 -- What a file has once it took lines, or a part of them.
-use Rattle.std.proofs.Common.{◌≡◌, ℕ, suc, ◌<◌, Bool, true, false, List, [], ◌∷◌, length, take, nat_lt, Option, refl, sym, subst, arith}
+use Rattle.std.proofs.Common.{◌≡◌, ℕ, suc, ◌+◌, ◌<◌, ◌≤◌, Bool, true, false, List, [], ◌∷◌, length, take, drop, nat_lt, Option, Result, Ok, Err, refl, sym, subst, arith, take-add, take-append-drop, length-drop}
 use Rattle.std.proofs.KnownBytes.{Appends-trans}
 use Rattle.std.specs.Io.KnownBytes.{Appends}
-use Rattle.tac_journal.specs.Appended.{with_end, IsTakenInPart}
+use Rattle.tac_journal.specs.Appended.{Takes, with_end, IsTakenInPart}
+use Rattle.tac_journal.specs.declared.tail.Untaken.{Untaken}
 
 -- the end of the last line, and then the lines
 pub whole : (was : Bool) (lines : List ℕ) (old mid new : Option (List ℕ)) → Appends old mid (with_end was []) → Appends mid new lines
@@ -24,3 +25,15 @@ unended was now lines old new is_cut stays none =
     let P : Bool → Type 0 = λ w. IsTakenInPart lines w now old new in
     let Q : Bool → Type 0 = λ n. IsTakenInPart lines true n old new in
     subst P (sym is_cut) (subst Q (sym stays) (0, refl, (λ some. omega arith), none))
+
+-- the first bytes, and then all of the rest or a part of it
+pub and_rest : (bytes : List ℕ) (taken more : ℕ) (written : Result (Unit {0}) Untaken) (start old new : Option (List ℕ)) → taken ≤ length bytes → (0 < length bytes → taken < length bytes)
+    → Appends start old (take taken bytes) → Takes (more, written) (drop taken bytes) old new → Takes (taken + more, written) bytes start new
+and_rest bytes taken more (Ok done) start old new within left first rest =
+    let len = length-drop taken bytes in
+    (omega (arith, rest.0, len, within), subst (Appends start new) (take-append-drop taken bytes) (Appends-trans start old new (take taken bytes) (drop taken bytes) first rest.1))
+and_rest bytes taken more (Err why) start old new within left first rest =
+    let len = length-drop taken bytes in (
+      (λ some. let less = left some in let fewer = rest.0 (omega (arith, less, len)) in omega (arith, fewer, len)),
+      subst (Appends start new) (sym (take-add taken more bytes)) (Appends-trans start old new (take taken bytes) (take more (drop taken bytes)) first rest.1),
+    )

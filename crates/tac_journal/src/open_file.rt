@@ -1,7 +1,8 @@
 //! A file as it is open now, and what takes lines into it.
 
+use crate::complaint::{say_that_it_fails, say_that_it_takes_lines};
 use crate::disk::{Disk, Fate};
-use crate::opening::{LogFiles, open};
+use crate::opening::{LogFiles, tail_of};
 use crate::tail::{Tail, Untaken};
 use brief_lock::take;
 use std::fs::File;
@@ -31,6 +32,8 @@ pub(crate) struct OpenFile {
 #[derive(Drop)]
 pub(crate) struct Place<'a> {
     pub(crate) path: &'a str,
+    /// What it is called where something is said of it.
+    pub(crate) name: &'a str,
     pub(crate) disk: Option<Disk>,
     /// Whether it was last said that the file takes no lines. Who reads that waits for nobody.
     pub(crate) is_failing: AtomicBool,
@@ -47,17 +50,19 @@ fn is_stale<C: Clock>(clock: &C, opened: Option<Instant>) -> bool {
     }
 }
 
-impl Place<'_> {
-    /// Opens the file.
-    pub(crate) fn open<H: Clock + LogFiles>(&self, host: &H) -> io::Result<OpenFile> {
+impl OpenFile {
+    /// This one, which was opened just now.
+    pub(crate) fn new<H: Clock>(host: &H, file: File) -> io::Result<OpenFile> {
         Ok(OpenFile {
-            tail: open(host, self.path)?,
+            tail: tail_of(file)?,
             opened: Instant::now(host).ok(),
             complained: None,
             appends: 0,
         })
     }
+}
 
+impl Place<'_> {
     // Sends what a file took to the disk before another takes its place.
     fn leave<H: Wait + LogFiles>(&self, host: &H, open_file: &OpenFile) -> io::Result<()> {
         let Some(disk) = &self.disk else {
@@ -73,7 +78,7 @@ impl Place<'_> {
     where
         H: Wait + Clock + LogFiles,
     {
-        let tail = open(host, self.path)?;
+        let tail = tail_of(host.open_log(self.path)?)?;
         self.leave(host, open_file)?;
         open_file.tail = tail;
         open_file.opened = Instant::now(host).ok();
@@ -88,17 +93,13 @@ impl Place<'_> {
         if is_stale(host, open_file.opened) {
             self.reopen(host, open_file).map_err(Untaken::Failed)?;
         }
-        open_file.tail.append(lines)
+        open_file.tail.append(host, lines, 0)
     }
 
-    // Says on standard error that the file takes no lines, once until it takes some again. It
-    // doesn't matter whether that can be written.
+    // Says that the file takes no lines, once until it takes some again.
     fn complain<H: Eprint>(&self, host: &H, open_file: &mut OpenFile, why: &Untaken) {
         if open_file.complained.is_none() {
-            let path = self.path;
-            let _ = eprintln!(host;
-                "tacd: {path}: {why}; requests aren't answered until it takes lines"
-            );
+            say_that_it_fails(host, self.name, why);
         }
         open_file.complained = Some(open_file.appends);
         self.is_failing.store(true, Ordering::SeqCst);
@@ -111,8 +112,7 @@ impl Place<'_> {
             return;
         };
         if number > before {
-            let path = self.path;
-            let _ = eprintln!(host; "tacd: {path}: it takes lines again");
+            say_that_it_takes_lines(host, self.name);
             open_file.complained = None;
             self.is_failing.store(false, Ordering::SeqCst);
         }

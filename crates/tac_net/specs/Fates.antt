@@ -1,4 +1,4 @@
--- As what connections are counted that are refused, or have ended (docs/SERVE.md, "How a server is").
+-- As what connections are counted that are refused, or have ended (docs/REFERENCE.md, "The lines of status").
 use Rattle.std.specs.Prelude.{Bool, if◌then◌else◌}
 use Rattle.tac_audit.specs.declared.event.WhyTurnedAway.{WhyTurnedAway}
 use Rattle.tac_audit.specs.declared.event.WhyTurnedAway.TheVariants as refusals

@@ -1,4 +1,4 @@
--- When a server says that its records fill up (docs/SERVE.md, "How long it runs").
+-- When a server says that its records fill up (docs/REFERENCE.md, "How long it runs").
 use Rattle.std.specs.Prelude.{ℕ, ◌+◌, ◌-◌, ◌/◌, ◌==◌, nat_lt, Bool, true, false, ◌&&◌, Option, Some}
 use Rattle.std.specs.Prelude.{None, Result, Ok, if◌then◌else◌}
 use Rattle.std.specs.declared.alloc.AllocError.{AllocError}

@@ -1,4 +1,4 @@
--- When a server gives a device up (docs/SERVE.md, "Silent and hostile devices"). Times are in
+-- When a server gives a device up (docs/REFERENCE.md, "Silent and hostile devices"). Times are in
 -- milliseconds, by a clock that may not be readable: then there is no time.
 use Rattle.std.specs.Prelude.{ℕ, ◌*◌, ◌-◌, min, ◌==◌, Bool, true, false, nat_le}
 use Rattle.std.specs.Prelude.{Option, Some, None, if◌then◌else◌}

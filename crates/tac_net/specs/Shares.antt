@@ -1,4 +1,4 @@
--- What a connection takes of the memory for packets (docs/SERVE.md, "Silent and hostile devices").
+-- What a connection takes of the memory for packets (docs/REFERENCE.md, "Silent and hostile devices").
 use Rattle.std.specs.Prelude.{ℕ, ◌+◌, ◌-◌, ◌^◌, min, nat_le, Bool, if◌then◌else◌}
 
 -- of so many bytes that a connection holds, those that count: the first 4,096 don't

@@ -1,4 +1,4 @@
--- As what a packet is counted, and what of a policy is (docs/SERVE.md, "How a server is").
+-- As what a packet is counted, and what of a policy is (docs/REFERENCE.md, "The lines of status").
 use Rattle.std.specs.Prelude.{ℕ, ◌==◌, List, length, codes, bytes_eq}
 use Rattle.std.specs.Prelude.{Option, Some, None, if◌then◌else◌}
 use Rattle.std.specs.List.{sum_by}
