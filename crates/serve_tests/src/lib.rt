@@ -6,6 +6,4 @@ mod console;
 #[cfg(test)]
 mod hall;
 #[cfg(test)]
-mod status;
-#[cfg(test)]
 mod work;

@@ -3,6 +3,5 @@
 
 mod census;
 mod consoles;
-mod filling;
 mod patience;
 mod workers;

@@ -1,4 +1,4 @@
-//! Tests of what devices send, of what is sent back, and of the file of a log.
+//! Tests of what devices send, and of what is sent back.
 #![tactic(auto)]
 
 #[cfg(test)]
@@ -8,12 +8,8 @@ mod first;
 #[cfg(test)]
 mod io;
 #[cfg(test)]
-mod journal;
-#[cfg(test)]
 mod lists;
 #[cfg(test)]
 mod proxy;
-#[cfg(test)]
-mod talk;
 #[cfg(test)]
 mod wire;

@@ -3,7 +3,6 @@
 use basics::{Bytes, Sequence};
 use std::alloc::{AllocError, Global};
 use std::test::Fail;
-use tac_conn::Arguments;
 
 // Adds the arguments of these lengths that lie one after another.
 fn push_cut(
@@ -36,17 +35,6 @@ pub(crate) fn arguments_in(alloc: Global, body: &[u8]) -> Result<Sequence<Bytes>
     let mut args = Sequence::new(alloc);
     push_cut(alloc, &mut args, lengths, joined)?;
     Ok(args)
-}
-
-/// Adds an argument to a list, which has room for it.
-pub(crate) fn push_argument(list: &mut Arguments, argument: &[u8]) -> Result<(), Fail> {
-    let (lengths, _) = list.parts();
-    let count = lengths.len();
-    if count >= 255 || argument.len() > 255 {
-        return Err(Fail::from("no room"));
-    }
-    list.push(argument)?;
-    Ok(())
 }
 
 /// Adds a text so often.
