@@ -4,12 +4,14 @@ back. Each case is a function, as in served.py."""
 
 import contextlib
 import json
+import os
 import pathlib
 import resource
 import threading
 import time
 
 from cases import Case, Check, Outcome, Play
+from operated import comes_to
 from served import (
     ASK,
     BAD_BODY,
@@ -65,6 +67,7 @@ def cases(name):
         devices_are_read_again,
         a_device_is_taken_out_in_its_first_packet,
         a_devices_file_that_is_refused,
+        a_devices_file_of_many_faults,
         no_devices,
         failed_logins_are_held_back,
         failed_logins_are_answered_at_once,
@@ -402,7 +405,8 @@ def a_device_is_taken_out_in_its_first_packet(program):
 
 
 def a_devices_file_that_is_refused(program):
-    """Or that can't be read: then those before are served on."""
+    """Or that can't be read: then those before are served on. Standard error says what is wrong, and
+    where."""
     with serving(program, ONE) as server:
         require(asks(server, "127.0.0.1", NEW), "the device isn't answered at first")
         path = pathlib.Path(server.folder.name, "devices")
@@ -427,7 +431,24 @@ def a_devices_file_that_is_refused(program):
         told = typed(program, server, "reload devices")
         require(told == "devices ok: 0 devices, 0 prefixes\n", f"it tells {told}")
         require(not asks(server, "127.0.0.1", NEW), "the device is answered")
-        ends(program, server, UNKNOWN.replace(STRANGER, "127.0.0.1"))
+        twice = "line 4 column 1: a second 'key' of its device: the first is at line 3"
+        lacks = "line 1 column 1: this device has neither 'key' nor 'tls', or an 'old-key' and no 'key'"
+        said = "".join(f"tacd: devices: {told}\n" for told in (twice, lacks))
+        ends(program, server, said + UNKNOWN.replace(STRANGER, "127.0.0.1"))
+
+
+def a_devices_file_of_many_faults(program):
+    """The answer is the first of them; standard error says eight, and what says all."""
+    with serving(program, ONE) as server:
+        comes_to(lambda: os.path.exists(f"{server.folder.name}/console"), True)
+        for count, more in ((8, ""), (9, "tacd: 'tacd devices --lint devices' says more\n")):
+            replace(server, ONE + f"secret {THIRD.decode()}\n" * count)
+            told = typed(program, server, "reload devices", status=1)
+            require(told == "devices fault line 4 1 BadLine\n", f"it tells {told}")
+            require(asks(server, "127.0.0.1", NEW), "the device isn't answered")
+        meant = "column 1: no line of a devices' file begins so: is 'key' meant?"
+        said = "".join(f"tacd: devices: line {number} {meant}\n" for number in range(4, 12))
+        ends(program, server, said + said + more)
 
 
 def no_devices(program):

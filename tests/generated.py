@@ -63,10 +63,21 @@ def cases(name):
     for part, text, words, printed, status in devices():
         file = File("devices", text.encode("latin-1"), 0o600)
         run = Run(("devices", "devices", *words), b"", (file,))
-        check = Check(run, Outcome(printed.encode(), b"", status), "devices")
+        complained = b"tacd: 'tacd devices --lint devices' says more\n" if status == 1 else b""
+        check = Check(run, Outcome(printed.encode(), complained, status), "devices")
         yield Case(f"{name}: devices, {part}", [check])
-    for words in (("devices", "devices"), ("serve", "--port", "1", "--devices", "devices", "nobody")):
-        yield Case(f"{name}: {words[0]} of a file that is too long", [long_devices(words)])
+    for part, text, told in lints():
+        file = File("devices", text.encode("latin-1"), 0o600)
+        run = Run(("devices", "devices", "--lint"), b"", (file,))
+        printed = "".join(f"line {line}\n" for line in told)
+        check = Check(run, Outcome(printed.encode(), b"", 1), "the lint")
+        yield Case(f"{name}: devices, {part}", [check])
+    for words in (
+        ("devices", "devices"),
+        ("devices", "--lint", "devices"),
+        ("serve", "--port", "1", "--devices", "devices", "nobody"),
+    ):
+        yield Case(f"{name}: {' '.join(words[:2])} of a file that is too long", [long_devices(words)])
 
 
 def key_file(length, complained):
@@ -137,6 +148,41 @@ def devices():
     for byte in "\x7f", "\x80", "\xff", "\0":
         told = "devices fault line 2 1 BadLine\n"
         yield f"the byte {byte!r}", f"device a\nkey k{byte}\nat ::1\n", (), told, 1
+
+
+def lints():
+    """Devices' files that are refused, and what is told of their lines: each byte, the limits, as many
+    faults as are told, and lines of 16 MB."""
+    odd = {"\r": "a carriage return: lines end in LF alone", "\t": "a tab: is a space meant?"}
+    for code in (*range(0x0A), *range(0x0B, 0x20), *range(0x7F, 0x100)):
+        byte = chr(code)
+        told = odd.get(byte, "a byte that isn't printable ASCII")
+        text = f"device a\nat ::1\nkey wintry{byte}tundra-ridge\n"
+        yield f"the byte {byte!r} in a key", text, [f"3 column 11: {told}"]
+    many = "".join(device(number, 1) for number in range(4096))
+    yield "a device too many", f"{many}device x", ["12289 column 1: more than 4096 devices"]
+    again = ["12290 column 2: a device of this name begins at line 1 already"]
+    yield "one again", f"{many}\n device d0", again
+    full = "".join(device(number, 16) for number in range(1024))
+    yield "a prefix too many", f"{full}at ::1", ["18433 column 1: more than 16384 lines 'at'"]
+    again = ["18433 column 1: line 2 has these addresses already"]
+    yield "a prefix again", f"{full}at 10.0.0.0/32", again
+    unknown = "no line of a devices' file begins with this word"
+    told = [f"{number} column 1: {unknown}" for number in range(1, 1001)]
+    yield "1,000 wrong lines", "x\n" * 1000, told
+    enough = "1001 column 1: this line and those after it aren't looked at: mend the others first"
+    yield "one more", "x\n" * 1001, [*told, enough]
+    yield "as many as there are", "x\n" * 8_388_608, [*told, enough]
+    yield "a line of 16 MB", "x" * 16_777_216, [f"1 column 1: {unknown}"]
+    spaces = "device a\nat ::1\nkey k\n".ljust(16_777_215) + "x"
+    yield "16 MB of spaces", spaces, [f"4 column {16_777_216 - 22}: {unknown}"]
+    zeros = "\0" * 16_777_216
+    yield "16 MB of zeros", zeros, ["1 column 1: a byte that isn't printable ASCII"]
+    lacks = "this device has no line 'at'"
+    lines = "".join(f"device d{number}\nkey k\n" for number in range(1001))
+    told = [f"{2 * number + 1} column 1: {lacks}" for number in range(1000)]
+    enough = "2000 column 1: this line and those after it aren't looked at: mend the others first"
+    yield "1,001 devices that lack something", lines, [*told, enough]
 
 
 def long_devices(words):

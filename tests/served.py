@@ -792,8 +792,9 @@ def statuses_of_the_console_client(program):
                 typed_lines = answers_all(console, "ready", "ok", answer)
                 printed, said = client.communicate(timeout=LONGEST_WAIT)
                 require(typed_lines == ["operator ben\n", "reload devices\n"], f"{typed_lines}")
+                more = b"tacd: type help\n" if answer == "refused 1 BadEdit" else b""
                 came = (printed.decode(), said, client.returncode)
-                require(came == (f"{answer}\n", b"", status), f"{answer} ends with {came}")
+                require(came == (f"{answer}\n", more, status), f"{answer} ends with {came}")
 
 
 def answers_all(console, first, *answers):

@@ -55,6 +55,7 @@ def cases(name):
         a_log_that_takes_no_lines,
         edits_that_are_not_kept,
         a_policy_that_others_read,
+        a_devices_file_that_is_refused,
         more_than_may_wait,
         an_end_that_is_not_awaited,
     ):
@@ -216,6 +217,26 @@ def a_policy_that_others_read(program):
             told(operator, ("reload", "ok"), ("reload", "ok"), ("shadow", "none"))
             require(is_permitted(server), "bob waits for the reader")
             unread.tells(readable * 2)
+            told(operator, ("quit", "ok"))
+            server.ends(is_listening=False)
+
+
+def a_devices_file_that_is_refused(program):
+    """Each reload is answered, and devices are, before what is wrong with its lines is read."""
+    meant = "column 1: no line of a devices' file begins so: is '{}' meant?"
+    said = "".join(
+        f"tacd: devices: line {number} {meant.format(word)}\n" for number, word in ((2, "at"), (3, "key"))
+    )
+    with Unread() as unread:
+        before = unread.begin
+        with attended(program, **LISTED, before=before) as server, Operator(server) as operator:
+            replace(server, "devices", "device one; ip 127.0.0.1; secret tundra-and-taiga")
+            for _ in range(3):
+                told(operator, ("reload devices", "devices fault line 2 1 BadLine"))
+            with connect(server, "127.0.0.1") as device:
+                asked = is_answered(device, ASK, PERMITTED, key=KEY_OF_ONE, flag=CLOSING)
+                require(asked, "a device waits for the reader")
+            unread.tells(said * 3)
             told(operator, ("quit", "ok"))
             server.ends(is_listening=False)
 

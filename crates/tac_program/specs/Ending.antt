@@ -4,10 +4,16 @@ use Rattle.tac_io.specs.declared.answering.AnswerFault.{AnswerFault}
 use Rattle.tac_io.specs.declared.answering.AnswerFault.TheVariants as answers
 use Rattle.tac_devices.specs.declared.listing.ListingEnd.{ListingEnd}
 use Rattle.tac_devices.specs.declared.listing.ListingEnd.TheVariants as listings
+use Rattle.tac_devices_lint.specs.declared.lint.DevicesLintEnd.{DevicesLintEnd}
+use Rattle.tac_devices_lint.specs.declared.lint.DevicesLintEnd.TheVariants as devices
 use Rattle.tac_review.specs.declared.checking.CheckEnd.{CheckEnd}
 use Rattle.tac_review.specs.declared.checking.CheckEnd.TheVariants as checks
 use Rattle.tac_review.specs.declared.linting.LintEnd.{LintEnd}
 use Rattle.tac_review.specs.declared.linting.LintEnd.TheVariants as lints
+use Rattle.tac_console_client.specs.declared.heard.Heard.{Heard}
+use Rattle.tac_console_client.specs.declared.heard.Heard.TheVariants as heard
+use Rattle.tac_review.specs.declared.task.Permission.{Permission}
+use Rattle.tac_review.specs.declared.task.Permission.TheVariants as permissions
 use Rattle.tac_review.specs.declared.task.ReviewEnd.{ReviewEnd}
 use Rattle.tac_review.specs.declared.task.ReviewEnd.TheVariants as reviews
 use Rattle.tac_review.specs.declared.task.ReviewFault.{ReviewFault}
@@ -44,14 +50,38 @@ status_of_listing (Ok listings.Stranger) = Differs
 status_of_listing (Ok listings.Refused) = Refused
 status_of_listing (Err fault) = status_of fault
 
+-- the same of a devices' file
+abbrev pub status_of_devices_lint : Result DevicesLintEnd AnswerFault → Status
+status_of_devices_lint (Ok devices.Quiet) = Done
+status_of_devices_lint (Ok devices.Told) = Differs
+status_of_devices_lint (Ok devices.Refused) = Refused
+status_of_devices_lint (Err fault) = status_of fault
+
 -- where something differs it is the one that is given
 abbrev pub status_of_review : Status → Result ReviewEnd ReviewFault → Status
 status_of_review told (Ok reviews.Done) = Done
+status_of_review told (Ok (reviews.Answered permission)) = Done
 status_of_review told (Ok reviews.Differs) = told
 status_of_review told (Ok (reviews.Edited batches)) = told
 status_of_review told (Ok (reviews.BadPolicy input)) = Refused
 status_of_review told (Ok reviews.Refused) = Refused
 status_of_review told (Err fault) = status_of fault.fault
+
+-- what a question is answered, where the status tells it
+abbrev pub status_of_permission : Permission → Status
+status_of_permission permissions.Permitted = Done
+status_of_permission permissions.Denied = Differs
+status_of_permission permissions.Unknown = Refused
+
+abbrev pub status_of_question : Result ReviewEnd ReviewFault → Status
+status_of_question (Ok (reviews.Answered permission)) = status_of_permission permission
+status_of_question outcome = status_of_review Done outcome
+
+-- how a client's lines were obeyed that were all answered
+abbrev pub status_of_heard : Heard → Status
+status_of_heard heard.Well = Done
+status_of_heard heard.Unkept = Differs
+status_of_heard heard.Refused = Refused
 
 -- a thread that can't be made counts as memory does: the machine has too little for the workers
 abbrev pub status_of_serving : ServeFault → Status

@@ -10,6 +10,8 @@ use Rattle.tac_devices.specs.Listing.{fault_line}
 use Rattle.tac_devices.specs.Text.{IsText}
 use Rattle.tac_devices.specs.declared.device.Device.{Device}
 use Rattle.tac_devices.specs.declared.fault.DevicesFault.{DevicesFault}
+use Rattle.tac_devices_lint.specs.Ends.{IsEnd}
+use Rattle.tac_devices_lint.specs.declared.lint.DevicesLintEnd.{DevicesLintEnd}
 
 -- the most bytes that a devices' file has
 abbrev pub max_text : ℕ
@@ -23,6 +25,10 @@ abbrev pub HasDevices : List ℕ → List ℕ → Option (List Device) → Type 
 HasDevices text printed (Some devices) = IsText text (Ok devices) × (printed ≡ [])
 HasDevices text printed None =
     (fault : DevicesFault) × IsText text (Err fault) × (printed ≡ fault_line fault)
+
+-- how its lint ends; what that prints is said by no definition
+abbrev pub IsLinted : List ℕ → List ℕ → DevicesLintEnd → Type 0
+IsLinted text printed end = IsEnd text end
 
 -- ---- of a file
 

@@ -1,14 +1,17 @@
 //! The words that the program takes.
 
+use crate::asking_line::ask_command;
+use crate::devices_lint::DEVICES_LINT_HELP;
 use crate::help::{
-    ABOUT, ADDRESS_HELP, AFTER_LONG_HELP, ASKED_HELP, AT_ONCE_HELP, CASES_HELP, CHECK_PAGE,
-    CONNECTIONS_HELP, CONSOLE_OPTION_HELP, CONSOLE_PAGE, CONSOLE_PATH_HELP, DEVICES_FILE_HELP,
-    DEVICES_HELP, DEVICES_PAGE, DIFF_PAGE, EDITS_HELP, EXIT_CODE_HELP, FAIL_DELAY_HELP, FILE_HELP,
-    GIVEN_PAGE, GIVEN_USER_HELP, IDLE_HELP, KEEP_EDITS_HELP, KEEP_RECORDS_HELP, KEY_FILE_HELP,
-    KEY_HELP, LINE_HELP, LINT_PAGE, LOG_HELP, LOGIN_IDLE_HELP, LONG_ABOUT, NEW_HELP,
-    NO_CONSOLE_HELP, OLD_HELP, PACKET_MEMORY_HELP, PER_ADDRESS_HELP, PORT_HELP, PROXY_HELP, Page,
-    REPLAY_LOG_HELP, REPLAY_PAGE, ROTATE_AT_HELP, SERVE_PAGE, SERVICE_HELP, SYNC_HELP, TEST_PAGE,
-    TIME_HELP, USER_HELP, WHY_PAGE, WORD_HELP, WORKERS_HELP,
+    ABOUT, ADDRESS_HELP, AFTER_LONG_HELP, ASKED_HELP, AT_ONCE_HELP, CASES_HELP, CHECK_ALONE_HELP,
+    CHECK_PAGE, CONNECTIONS_HELP, CONSOLE_OPTION_HELP, CONSOLE_PAGE, CONSOLE_PATH_HELP,
+    DEVICES_FILE_HELP, DEVICES_HELP, DEVICES_PAGE, DIFF_PAGE, EDITS_HELP, EXIT_CODE_HELP,
+    FAIL_DELAY_HELP, FILE_HELP, GIVEN_PAGE, GIVEN_USER_HELP, IDLE_HELP, INPUT_HELP,
+    KEEP_EDITS_HELP, KEEP_RECORDS_HELP, KEY_FILE_HELP, KEY_HELP, LINE_HELP, LINT_PAGE, LOG_HELP,
+    LOGIN_IDLE_HELP, LONG_ABOUT, NEW_HELP, NO_CONSOLE_HELP, OLD_HELP, PACKET_MEMORY_HELP,
+    PER_ADDRESS_HELP, PORT_HELP, PROXY_HELP, Page, REPLAY_LOG_HELP, REPLAY_PAGE, ROTATE_AT_HELP,
+    SERVE_PAGE, SERVICE_HELP, STATUS_HELP, SYNC_HELP, TEST_PAGE, TIME_HELP, USER_HELP,
+    VERSION_ABOUT, WHY_PAGE, WORD_HELP, WORKERS_HELP,
 };
 use crate::importing::{
     DEVICES_TO, DEVICES_TO_HELP, IMPORT, IMPORT_FILE_HELP, IMPORT_PAGE, KEY_TO, KEY_TO_HELP,
@@ -25,7 +28,13 @@ pub(crate) const REPLAY: &str = "replay";
 /// The word that asks for a check.
 pub(crate) const CHECK: &str = "check";
 
-/// The word that asks what a policy probably doesn't mean.
+/// The word that asks for the version.
+pub(crate) const VERSION_WORD: &str = "version";
+
+/// The name of a policy's file that stands for standard input.
+pub(crate) const INPUT_PATH: &str = "-";
+
+/// The word that asks what a policy probably doesn't mean, and the option that asks it of devices.
 pub(crate) const LINT: &str = "lint";
 
 /// The word that asks what a new policy changes.
@@ -64,6 +73,9 @@ pub(crate) const EXIT_CODE: &str = "exit-code";
 pub(crate) const USER: &str = "USER";
 
 pub(crate) const LINE: &str = "LINE";
+
+/// Whether the exit status tells what a question is answered.
+pub(crate) const STATUS: &str = "status";
 
 /// Which service is asked about.
 pub(crate) const SERVICE: &str = "SERVICE";
@@ -117,6 +129,9 @@ pub(crate) const SYNC: &str = "sync";
 /// Whether the server has no console.
 pub(crate) const NO_CONSOLE: &str = "no-console";
 
+/// Whether a start is looked at alone.
+pub(crate) const CHECK_ALONE: &str = "check";
+
 /// The file of the devices that may call, each by its own key.
 pub(crate) const DEVICES_FILE: &str = "devices";
 
@@ -153,7 +168,7 @@ pub(crate) const PACKET_MEMORY: &str = "packet-memory";
 pub(crate) const CONNECTIONS: &str = "connections";
 
 // An option of `serve` that is a number, within these bounds.
-fn number<'a>(
+pub(crate) fn number<'a>(
     alloc: Global,
     id: &'a str,
     shown: &'a str,
@@ -169,12 +184,12 @@ fn number<'a>(
 }
 
 // An option that is a text.
-fn text<'a>(alloc: Global, id: &'a str, shown: &'a str, help: &'a str) -> Arg<'a> {
+pub(crate) fn text<'a>(alloc: Global, id: &'a str, shown: &'a str, help: &'a str) -> Arg<'a> {
     Arg::new(alloc, id).long(id).value_name(shown).help(help)
 }
 
 // An option that is given or not.
-fn flag<'a>(alloc: Global, id: &'a str, help: &'a str) -> Arg<'a> {
+pub(crate) fn flag<'a>(alloc: Global, id: &'a str, help: &'a str) -> Arg<'a> {
     Arg::new(alloc, id)
         .long(id)
         .action(ArgAction::SetTrue)
@@ -182,12 +197,12 @@ fn flag<'a>(alloc: Global, id: &'a str, help: &'a str) -> Arg<'a> {
 }
 
 // A word that must be there.
-fn required<'a>(alloc: Global, id: &'a str, help: &'a str) -> Arg<'a> {
+pub(crate) fn required<'a>(alloc: Global, id: &'a str, help: &'a str) -> Arg<'a> {
     Arg::new(alloc, id).required(true).help(help)
 }
 
 // All words that are left, whatever they begin with.
-fn rest<'a>(alloc: Global, id: &'a str, help: &'a str) -> Arg<'a> {
+pub(crate) fn rest<'a>(alloc: Global, id: &'a str, help: &'a str) -> Arg<'a> {
     Arg::new(alloc, id)
         .num_args(0..)
         .trailing_var_arg(true)
@@ -196,7 +211,7 @@ fn rest<'a>(alloc: Global, id: &'a str, help: &'a str) -> Arg<'a> {
 }
 
 // A command with its help.
-fn with_page<'a>(alloc: Global, name: &'a str, page: Page) -> Command<'a> {
+pub(crate) fn with_page<'a>(alloc: Global, name: &'a str, page: Page) -> Command<'a> {
     Command::new(alloc, name)
         .about(page.about)
         .long_about(page.long_about)
@@ -255,6 +270,7 @@ fn with_options<'a>(alloc: Global, command: Command<'a>) -> Result<Command<'a>, 
         .arg(text(alloc, CONSOLE, "PATH", CONSOLE_OPTION_HELP))?
         .arg(text(alloc, KEEP_EDITS, "PATH", KEEP_EDITS_HELP).requires_arg(CONSOLE)?)?
         .arg(flag(alloc, NO_CONSOLE, NO_CONSOLE_HELP).conflicts_with(CONSOLE)?)?
+        .arg(flag(alloc, CHECK_ALONE, CHECK_ALONE_HELP))?
         .arg(number(alloc, ROTATE_AT, "N", calls, ROTATE_AT_HELP).default_value("32768"))?
         .arg(number(alloc, CONNECTIONS, "N", connections, CONNECTIONS_HELP).default_value(
             "4294967295",
@@ -280,11 +296,11 @@ fn serve<'a>(alloc: Global) -> Result<Command<'a>, AllocError> {
 }
 
 fn check<'a>(alloc: Global) -> Result<Command<'a>, AllocError> {
-    with_page(alloc, CHECK, CHECK_PAGE).arg(required(alloc, FILE, FILE_HELP))
+    with_page(alloc, CHECK, CHECK_PAGE).arg(required(alloc, FILE, INPUT_HELP))
 }
 
 fn lint<'a>(alloc: Global) -> Result<Command<'a>, AllocError> {
-    with_page(alloc, LINT, LINT_PAGE).arg(required(alloc, FILE, FILE_HELP))
+    with_page(alloc, LINT, LINT_PAGE).arg(required(alloc, FILE, INPUT_HELP))
 }
 
 fn diff<'a>(alloc: Global) -> Result<Command<'a>, AllocError> {
@@ -297,6 +313,7 @@ fn diff<'a>(alloc: Global) -> Result<Command<'a>, AllocError> {
 
 fn why<'a>(alloc: Global) -> Result<Command<'a>, AllocError> {
     with_page(alloc, WHY, WHY_PAGE)
+        .arg(flag(alloc, STATUS, STATUS_HELP).requires_arg(USER)?)?
         .arg(required(alloc, FILE, FILE_HELP))?
         .arg(Arg::new(alloc, USER).help(USER_HELP))?
         .arg(rest(alloc, LINE, LINE_HELP))
@@ -304,6 +321,7 @@ fn why<'a>(alloc: Global) -> Result<Command<'a>, AllocError> {
 
 fn given<'a>(alloc: Global) -> Result<Command<'a>, AllocError> {
     with_page(alloc, GIVEN, GIVEN_PAGE)
+        .arg(flag(alloc, STATUS, STATUS_HELP))?
         .arg(required(alloc, FILE, FILE_HELP))?
         .arg(required(alloc, USER, GIVEN_USER_HELP))?
         .arg(required(alloc, SERVICE, SERVICE_HELP))
@@ -317,6 +335,7 @@ fn test<'a>(alloc: Global) -> Result<Command<'a>, AllocError> {
 
 fn devices<'a>(alloc: Global) -> Result<Command<'a>, AllocError> {
     with_page(alloc, DEVICES, DEVICES_PAGE)
+        .arg(flag(alloc, LINT, DEVICES_LINT_HELP).conflicts_with(ADDRESSES)?)?
         .arg(required(alloc, FILE, DEVICES_HELP))?
         .arg(Arg::new(alloc, ADDRESSES).num_args(0..).help(ASKED_HELP))
 }
@@ -340,6 +359,10 @@ fn console<'a>(alloc: Global) -> Result<Command<'a>, AllocError> {
         .arg(rest(alloc, WORD, WORD_HELP))
 }
 
+fn version<'a>(alloc: Global) -> Command<'a> {
+    Command::new(alloc, VERSION_WORD).about(VERSION_ABOUT)
+}
+
 // The command with one more below it.
 fn with<'a>(
     command: Command<'a>,
@@ -355,7 +378,7 @@ pub(crate) fn word_of<'a>(matches: &ArgMatches<'a>, id: &str) -> &'a str {
 }
 
 /// The version of the program.
-pub(crate) const VERSION: &str = "0.19.0";
+pub(crate) const VERSION: &str = "0.20.0";
 
 /// What the program's command line may be.
 pub(crate) fn command<'a>(alloc: Global) -> Result<Command<'a>, AllocError> {
@@ -367,6 +390,7 @@ pub(crate) fn command<'a>(alloc: Global) -> Result<Command<'a>, AllocError> {
         .subcommand_required(true);
     let command = with(command, serve(alloc))?;
     let command = with(command, console(alloc))?;
+    let command = with(command, ask_command(alloc))?;
     let command = with(command, check(alloc))?;
     let command = with(command, lint(alloc))?;
     let command = with(command, diff(alloc))?;
@@ -375,5 +399,6 @@ pub(crate) fn command<'a>(alloc: Global) -> Result<Command<'a>, AllocError> {
     let command = with(command, test(alloc))?;
     let command = with(command, devices(alloc))?;
     let command = with(command, import(alloc))?;
-    with(command, replay(alloc))
+    let command = with(command, replay(alloc))?;
+    command.subcommand(version(alloc))
 }

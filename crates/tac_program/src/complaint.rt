@@ -4,6 +4,9 @@ use crate::status::Status;
 use tac_devices::Devices;
 use tac_io::AnswerFault;
 
+/// What standard input is called where it is refused or can't be read.
+pub(crate) const STANDARD_INPUT: &str = "standard input";
+
 /// Says why a policy's file isn't answered, or not to the end. The status tells it too, so it
 /// doesn't matter whether this could be written.
 pub(crate) fn complain<R: Eprint>(rt: &R, path: &str, fault: AnswerFault) {

@@ -5,8 +5,9 @@ ghost use Rattle.std.specs.Io.KnownBytes.{IsAtEnd};
 ghost use Rattle.tac_devices.specs.Listing.{IsOnlyListing};
 ghost use Rattle.tac_program.specs.Telling.{HasDevices, IsTold, IsWorkedOut};
 
-use crate::command_line::{ADDRESSES, FILE, word_of};
+use crate::command_line::{ADDRESSES, FILE, LINT, word_of};
 use crate::complaint::{complain, complain_of_devices};
+use crate::devices_lint::{lint_file, name_devices_lint};
 use crate::opening::{open_file, open_secret};
 use crate::status::Status;
 use clap::ArgMatches;
@@ -91,18 +92,24 @@ where
         Err(status) => return status,
     };
     let outcome = tell(rt.alloc(), asked, &mut file, &mut io::writer(rt));
-    if let Err(fault) = outcome {
-        complain_of_devices(rt, path, fault);
+    match outcome {
+        Ok(ListingEnd::Refused) => name_devices_lint(rt, path),
+        Ok(_) => {}
+        Err(fault) => complain_of_devices(rt, path, fault),
     }
     Status::of_listing(outcome)
 }
 
-/// Prints what a devices' file has, or which device each address of the command line is.
+/// Prints what a devices' file has, which device each address of the command line is, or what is
+/// wrong with the file or probably not meant.
 pub(crate) fn devices<R>(rt: &R, matches: &ArgMatches<'_>) -> Status
 where
     R: Files + Print + Eprint + AllocGlobal,
 {
     let path = word_of(matches, FILE);
+    if matches.get_flag(LINT) {
+        return lint_file(rt, path);
+    }
     let words = matches.get_strs(ADDRESSES).unwrap_or(&[]);
     match asked_of(rt, path, words) {
         Ok(asked) => tell_of_file(rt, path, asked.as_slice()),
@@ -172,13 +179,14 @@ fn tell_remarks<R: Eprint + AllocGlobal>(
     Ok(())
 }
 
-// The devices of the file at a path, of which standard error has the remarks.
-fn devices_of_file<R>(rt: &R, path: &str) -> Result<Devices, Status>
+// The devices of the file at a path, of which standard error has the remarks. Where it is refused,
+// the reason is written to this writer.
+fn devices_of_file<R, W: Write>(rt: &R, path: &str, writer: &mut W) -> Result<Devices, Status>
 where
-    R: Files + Print + Eprint + AllocGlobal,
+    R: Files + Eprint + AllocGlobal,
 {
     let mut file = open_secret(rt, path)?;
-    match open_devices(rt.alloc(), &mut file, &mut io::writer(rt)) {
+    match open_devices(rt.alloc(), &mut file, writer) {
         Ok(Some(devices)) => {
             tell_remarks(rt, path, &devices)?;
             Ok(devices)
@@ -192,11 +200,15 @@ where
 }
 
 /// The directory of these devices, which may be read again.
-pub(crate) fn directory_of_file<R>(rt: &R, path: &str) -> Result<Directory, Status>
+pub(crate) fn directory_of_file<R, W: Write>(
+    rt: &R,
+    path: &str,
+    writer: &mut W,
+) -> Result<Directory, Status>
 where
-    R: Files + Print + Eprint + AllocGlobal,
+    R: Files + Eprint + AllocGlobal,
 {
-    let devices = devices_of_file(rt, path)?;
+    let devices = devices_of_file(rt, path, writer)?;
     match Directory::new(rt.alloc(), devices) {
         Ok(directory) => Ok(directory),
         Err(_) => {

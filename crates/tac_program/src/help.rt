@@ -59,11 +59,12 @@ pub(crate) const LONG_ABOUT: &str =
 A network device that runs TACACS+ (RFC 8907) asks a server who may log in and which command lines a
 user may run, and has it record what was done. 'tacd serve' is such a server: it listens on a port,
 and takes edits of its policy and questions at a console. 'tacd console' types there where that is at
-a socket. 'tacd check' reads a policy and prints which of its rules decide nothing, 'tacd lint' what
-in it is probably not meant; 'tacd diff' prints what a new policy permits and denies that an old one
-didn't, 'tacd why' which rule decides on a line, 'tacd given' what a user is given for a service, and
-'tacd test' whether all is so that a table says. 'tacd devices' reads which devices may call. 'tacd
-replay' takes what devices send from a script, together with the policy, and prints what is
+a socket. 'tacd ask' asks any such server as a device does. 'tacd check' reads a policy and prints
+which of its rules decide nothing, 'tacd lint' what in it is probably not meant; 'tacd diff' prints
+what a new policy permits and denies that an old one didn't, 'tacd why' which rule decides on a line,
+'tacd given' what a user is given for a service, and 'tacd test' whether all is so that a table says.
+'tacd devices' reads which devices may call. 'tacd replay' takes what devices send from a script,
+together with the policy, and prints what is
 answered; it opens no socket.";
 
 pub(crate) const SERVE_PAGE: Page = Page {
@@ -99,6 +100,17 @@ Standard output has 'listening PORT' first, or 'listening PORT at ADDRESS' with 
 'listening PATH' where a proxy calls, and then the answers of a console on standard input.
 Standard error says so where too few files may be open for so many connections, as by 'ulimit -n',
 and where the policy has no user, so that nobody can log in.
+
+With --log PATH, what is at PATH may also be a FIFO, a pipe as /dev/stdout or a
+terminal. A line counts once the pipe took it. Where nobody reads it, or it is
+full, no request is answered until it takes lines again; nobody waits for it.
+With --log -, standard output has the lines of the log alone, 'listening PORT'
+goes to standard error, and --console PATH or --no-console is wanted.
+
+With --check nobody is served. What a start looks at is looked at, and nothing
+is bound, made or changed: the words and the status are those of a start, and
+'ok' is printed where nothing is wrong. Before a restart, the server may go on
+meanwhile: whether the port is taken isn't looked at.
 
 SIGTERM ends the server at once, and so does SIGHUP, unless ./tacd or the package's service started
 it: it goes on then. To run it in the background or in a container, give --console PATH, where
@@ -172,7 +184,7 @@ Example:
   quit
 
 Exit status:
-  0  the server was stopped
+  0  the server was stopped, or --check found nothing wrong
   1  the policy is refused, or that of --keep-edits is, and why was printed, as by 'tacd check'; or
      the file of --devices is, as by 'tacd devices'
   2  the command line or the key is wrong
@@ -230,13 +242,14 @@ pub(crate) const CONNECTIONS_HELP: &str =
 pub(crate) const ROTATE_AT_HELP: &str =
     "For tests: begin a new segment of the history before the Nth call of one, 1 to 65536";
 
-pub(crate) const LOG_HELP: &str =
-    "The file that takes a line of JSON for each request, before its device is answered";
+pub(crate) const LOG_HELP: &str = "Log each request here; '-' is standard output";
 
 pub(crate) const SYNC_HELP: &str = "Answer a device only once its line is on the disk";
 
 pub(crate) const NO_CONSOLE_HELP: &str =
     "Read no standard input, and serve until the process is ended, as by SIGTERM";
+
+pub(crate) const CHECK_ALONE_HELP: &str = "Look at all a start needs, and serve nobody";
 
 pub(crate) const CONSOLE_OPTION_HELP: &str =
     "The socket at which operators type by 'tacd console'; standard input isn't read then";
@@ -250,7 +263,9 @@ pub(crate) const CONSOLE_PAGE: Page = Page {
 
 The words of a line are joined by blanks. Without a WORD, lines are read: from a terminal, with a
 prompt, until the input ends; or from a file or a pipe, each once the one before is answered. There
-the first that is refused ends it: the rest isn't sent, and a batch that is open is dropped.
+the first that is refused ends it: the rest isn't sent, and a batch that is open is dropped. 'exit'
+and 'logout' end the session, as the end of the input does; 'quit' stops the server. Empty lines, and
+lines that begin with '#', are passed over, and a line may end in CR LF.
 
 'tacd serve --help' describes the lines and their answers. At a socket there are three more: 'help';
 'status', which tells how the server is, as lines that Prometheus reads; and 'operator NAME', which
@@ -264,6 +279,9 @@ are answered by 'busy NAME'; he loses it where he types nothing for a minute.",
 'tacd console --help' describes what is printed.",
     after_long_help: "What is printed on standard error where a line of a file is refused:
   tacd: line N: ANSWER; later lines weren't sent
+And where a line is answered by 'refused 1 BadEdit', with the nearest word of a console if one is near:
+  tacd: is 'WORD' meant? If not, type help
+  tacd: type help
 
 Examples:
   $ tacd console /run/tacd/console why ben show vlan
@@ -342,17 +360,27 @@ Exit status:
 
 pub(crate) const FILE_HELP: &str = "The policy's text, at most 268435456 bytes";
 
+pub(crate) const INPUT_HELP: &str =
+    "The policy's text, at most 268435456 bytes; '-' is standard input";
+
+pub(crate) const VERSION_ABOUT: &str = "Prints the version";
+
+pub(crate) const STATUS_HELP: &str =
+    "End with status 0 where it is permitted or given, 5 where it isn't, and 1 where no such user is";
+
 pub(crate) const LINT_PAGE: Page = Page {
     about: "Prints what a policy says and probably doesn't mean",
     long_about: "Reads a policy, and prints what in it is right and probably not meant: questions about its rules
 and subjects, each with its line and column. What it says never changes what the policy means.
 
 It asks about what other pattern languages read otherwise ('^', '$', '\\d', '[[:alpha:]]', '{1,3}'),
-about ' # ' in a pattern, about spaces round patterns and secrets and at the end of attributes,
-passwords that look like hashes, hashes of over 20000 rounds, a service 'exec', mandatory attributes
-of shells, attributes of a shell that nobody there may start, an odd number of '\"' in an attribute,
-rules without the word <cr> that Cisco IOS ends each line with, groups that nobody is in, users
-without a login, an empty policy, and it names rules that decide nothing.
+about ' # ' in a pattern, about spaces and quotes round patterns and secrets, spaces at the end of
+attributes, passwords that look like hashes, hashes of over 20000 rounds, a service 'exec', mandatory
+attributes of shells, levels, attributes and logins for a shell that nobody there may start, 'enable'
+where the level is below 15, an odd number of '\"' in an attribute, rules without the word <cr> that
+Cisco IOS ends each line with, and ones that begin with an abbreviation that IOS expands ('conf t'),
+groups that nobody is in, users without a login, a user DEFAULT, an empty policy, and it names rules
+that decide nothing.
 Of a policy that is refused it prints every wrong line, and not only the first, and why each is
 wrong; where it is too large, which rules may double its states.",
     after_help: "Example:
@@ -499,11 +527,12 @@ Example:
   ben reload: denied by group engineers rule 8
 
 Exit status:
-  0  all is answered
-  1  something is refused, and why was printed
+  0  all is answered; with --status, the line is permitted
+  1  something is refused, and why was printed; with --status, also where there is no such user
   2  the command line is wrong
   3  memory ran out
-  4  an input could not be read, or the output could not be written",
+  4  an input could not be read, or the output could not be written
+  5  with --status: the line is denied",
 };
 
 pub(crate) const USER_HELP: &str = "Whose line it is; without it, standard input is read";
@@ -544,11 +573,12 @@ Example:
   group netops gives shell:roles*\"network-admin\"
 
 Exit status:
-  0  it is answered
-  1  something is refused, and why was printed
+  0  it is answered; with --status, the service is given
+  1  something is refused, and why was printed; with --status, also where there is no such user
   2  the command line is wrong
   3  memory ran out
-  4  the file could not be read, or the output could not be written",
+  4  the file could not be read, or the output could not be written
+  5  with --status: the service is not given",
 };
 
 pub(crate) const GIVEN_USER_HELP: &str = "Who is given it";
@@ -602,13 +632,15 @@ pub(crate) const DEVICES_PAGE: Page = Page {
     about: "Reads which devices may call, and tells which of them an address is",
     long_about: "Reads a file that says which devices may call, by which addresses and under which keys, and prints
 how much it has, and what is remarked on it. Where addresses are given, it prints instead which
-device each of them is.
+device each of them is. With --lint it prints what is wrong in the file or
+probably not meant, line by line, and what was meant.
 
 Of the prefixes that an address begins with the longest decides, wherever it stands. No key is ever
 printed. 'tacd serve --devices' serves the devices of such a file.",
     after_help: "Examples:
   tacd devices campus.devices
   tacd devices campus.devices 192.0.2.1 2001:db8::1
+  tacd devices --lint campus.devices
 
 'tacd devices --help' describes the lines of the file, and what is printed.",
     after_long_help: "Lines of the file, any number of these:
@@ -654,19 +686,30 @@ What is printed of each ADDRESS, in their order:
 What is printed where the file is refused; nothing else is printed then:
   devices fault line L FAULT
                        line L is wrong, or the device that begins there
+Standard error then names 'tacd devices --lint', which says more.
 
-Example:
+What is printed with --lint, a line for each; columns count bytes from 1:
+  line N column M: TEXT
+                       of a file that is refused, what is wrong with line N, of
+                       up to 1000 such lines; of another one, what is remarked
+                       on, as above
+
+Examples:
   $ tacd devices campus.devices 192.0.2.1 203.0.113.9
   192.0.2.1 core-1 192.0.2.1/32 line 3
   203.0.113.9 may not call
+  $ tacd devices --lint broken.devices
+  line 7 column 16: a netmask: is '192.0.2.128/25' meant?
 
 Exit status:
-  0  the file may stand, and each ADDRESS is a device's
+  0  the file may stand, and each ADDRESS is a device's; with --lint, there was
+     nothing to say
   1  the file is refused, and why was printed
   2  the command line is wrong, or an ADDRESS is none
   3  memory ran out
   4  the file could not be read, or the output could not be written
-  5  an ADDRESS may not call",
+  5  an ADDRESS may not call; or with --lint, the file may stand, and something
+     was printed",
 };
 
 pub(crate) const DEVICES_HELP: &str = "The text of the devices, at most 16777216 bytes";
@@ -750,6 +793,7 @@ pub(crate) const AFTER_LONG_HELP: &str = "Examples:
   tacd import tac_plus.conf
   tacd serve --port 49 --key-file tacd.key campus.policy
   tacd console /run/tacd/console why ben show vlan
+  tacd ask --key-file tacd.key login bob < password
   tacd replay < session.script
 
 'tacd COMMAND --help' describes what is read, what is printed, and the exit status.";

@@ -1,9 +1,11 @@
 //! Edits that outlive a server.
 
+use crate::notices::Notices;
 use crate::operators::Operators;
 use crate::options::Options;
 use crate::server::{serve_console, serve_desk, watched};
 use crate::status::Status;
+use dry_run::see_file as see_place_of_file;
 use std::fs::File;
 use std::io;
 use std::net::Net;
@@ -58,6 +60,19 @@ fn see_own<R: Eprint, H: KeepFiles>(
     }
 }
 
+// Whether a place has edits, if some may be kept there.
+fn see_place<R: Eprint, H: KeepFiles>(
+    rt: &R,
+    host: &H,
+    place: &Place<'_>,
+    uses: &[Use<'_>],
+) -> Result<bool, Status> {
+    let has_edits = see_file(rt, host, place.path, uses)?;
+    see_own(rt, host, place.draft.as_str(), uses)?;
+    see_own(rt, host, place.lock.as_str(), uses)?;
+    Ok(has_edits)
+}
+
 // Locks a place for this server, if edits may be kept there.
 fn lock_place<R: Eprint, H: KeepFiles>(
     rt: &R,
@@ -66,9 +81,7 @@ fn lock_place<R: Eprint, H: KeepFiles>(
     uses: &[Use<'_>],
 ) -> Result<File, Status> {
     let lock = place.lock.as_str();
-    see_file(rt, host, place.path, uses)?;
-    see_own(rt, host, place.draft.as_str(), uses)?;
-    see_own(rt, host, lock, uses)?;
+    see_place(rt, host, place, uses)?;
     match host.lock_file(lock) {
         Ok(file) => Ok(file),
         Err(error) => Err(refuse(rt, lock, &error)),
@@ -113,6 +126,39 @@ pub(crate) fn first_file<'a, R: Eprint, H: KeepFiles + AllocGlobal>(
     }
 }
 
+// What would be served at first where edits are kept at a place. Nothing is locked there.
+fn find_first_at<'a, R: Files + Eprint, H: KeepFiles>(
+    rt: &R,
+    host: &H,
+    place: &Place<'a>,
+    options: &Options<'a>,
+) -> Result<&'a str, Status> {
+    let uses = options.uses();
+    let has_edits = see_place(rt, host, place, &uses)?;
+    let lock = place.lock.as_str();
+    match see_place_of_file(rt, lock) {
+        Ok(()) if has_edits => Ok(place.path),
+        Ok(()) => Ok(options.path),
+        Err(error) => Err(refuse(rt, lock, &error)),
+    }
+}
+
+/// Which file's policy a start would serve at first ([`first_file`]), whoever has the lock of the
+/// edits: it may be the server that is to be replaced.
+pub(crate) fn find_first_file<'a, R: Files + Eprint, H: KeepFiles + AllocGlobal>(
+    rt: &R,
+    host: &H,
+    options: &Options<'a>,
+) -> Result<&'a str, Status> {
+    let Some(kept) = options.kept else {
+        return Ok(options.path);
+    };
+    match Place::of(host.alloc(), kept) {
+        Ok(place) => find_first_at(rt, host, &place, options),
+        Err(error) => Err(refuse(rt, kept, &error)),
+    }
+}
+
 /// Says that the policy of a kept file is served in place of FILE. It doesn't matter whether this
 /// could be written.
 pub(crate) fn tell_of_edits<R: Eprint>(rt: &R, file: &str, kept: &str) {
@@ -137,8 +183,9 @@ where
     R: Files + Print + Eprint,
     H: Threads + Wait + Clock + Sync + AllocGlobal + Eprint + LogFiles + KeepFiles + Net,
 {
-    // what is printed before the first line goes to standard output
-    let answers = exchange.output(host, io::writer(rt));
+    // what is printed before the first line goes to no operator
+    let aside = options.has_log_for_output();
+    let answers = exchange.output(host, Notices::new(rt, host, aside));
     let typists = Operators { host, exchange };
     let Some(path) = options.kept else {
         let console = (exchange.input(host), answers, typists);
@@ -152,7 +199,7 @@ where
     let desk = watched(host, options, KeptDesk::new(host.alloc(), tray, desk));
     let store = KeptFile::new(host, &place, &uses);
     let complaint = Complaint::new(host, path);
-    let notes = exchange.output(host, io::writer(rt));
+    let notes = exchange.output(host, Notices::new(rt, host, aside));
     let output = KeptOutput::new(tray, store, complaint, notes, answers);
     let console = (exchange.input(host), output, typists);
     serve_desk(rt, host, options, desk, journal, listeners, console)

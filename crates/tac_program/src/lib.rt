@@ -3,6 +3,10 @@
 #![tactic(auto)]
 
 mod address;
+mod asking;
+mod asking_line;
+mod asking_place;
+mod checking;
 mod command_line;
 mod complaint;
 mod condition;
@@ -10,9 +14,11 @@ mod console;
 mod console_client;
 mod descriptors;
 mod devices;
+mod devices_lint;
 mod help;
 mod importing;
 mod keeping;
+mod notices;
 mod opening;
 mod operators;
 mod options;

@@ -8,22 +8,26 @@ ghost use Rattle.tac_program.specs.Opening as opening;
 
 use crate::address::{address_of, address_text, socket_address};
 use crate::command_line::{
-    CONNECTIONS, CONNECTIONS_AT_ONCE, CONSOLE, DEVICES_FILE, FAIL_DELAY, FILE, IDLE, KEEP_EDITS,
-    KEEP_RECORDS, KEY, KEY_FILE, LOG, LOGIN_IDLE, MAX_CALLS, NO_CONSOLE, PACKET_MEMORY,
+    CHECK_ALONE, CONNECTIONS, CONNECTIONS_AT_ONCE, CONSOLE, DEVICES_FILE, FAIL_DELAY, FILE, IDLE,
+    KEEP_EDITS, KEEP_RECORDS, KEY, KEY_FILE, LOG, LOGIN_IDLE, MAX_CALLS, NO_CONSOLE, PACKET_MEMORY,
     PER_ADDRESS, PORT, PROXY, ROTATE_AT, SYNC, WORKERS, word_of,
 };
 use crate::complaint::out_of_memory;
 use crate::devices::directory_of_file;
+use crate::notices::Notices;
 use crate::opening::open_secret;
 use crate::status::Status;
 use basics::{Bytes, split_once};
 use clap::ArgMatches;
+use std::fs;
 use std::net::SocketAddr;
 use std::rt::Files;
 use tac_desks::MAX_RECORDS;
 use tac_devices::KeyDoubt;
+use tac_devices_lint::key_remark;
 use tac_forum::Limits;
 use tac_io::{InputFault, read_whole};
+use tac_journal::{OUTPUT_NAME, STANDARD_OUTPUT};
 use tac_keep::{Tray, Use};
 use tac_net::{Callers, ClearDoor, Idle, Settings};
 use tac_status::Counts;
@@ -32,6 +36,12 @@ use tac_wire::{Key, KeyDoor};
 
 const BAD_KEY: &str =
     "error: invalid value for '--key <K>': it is not 1 to 128 printable ASCII characters
+
+For more information, try '--help'.";
+
+/// What is said where answers of a console would stand among the lines of a log.
+const TWO_FOR_OUTPUT: &str = "error: the console and the log can't both have standard output: \
+    give --console PATH, or --no-console
 
 For more information, try '--help'.";
 
@@ -67,7 +77,8 @@ pub(crate) struct Options<'a> {
     pub(crate) devices: Option<&'a str>,
     /// How many records are kept, and what is done with one more.
     pub(crate) record_limit: RecordLimit,
-    /// The file that takes the lines of an auditor, if there is one.
+    /// The file that takes the lines of an auditor, or [standard output](is_output), if there is
+    /// one.
     pub(crate) log: Option<&'a str>,
     /// Whether a line counts only once it is on the disk.
     pub(crate) syncs: bool,
@@ -77,6 +88,8 @@ pub(crate) struct Options<'a> {
     pub(crate) console: Option<&'a str>,
     /// The file that has the policy with the edits that were made there, if they are kept.
     pub(crate) kept: Option<&'a str>,
+    /// Whether nobody is served, and a start is looked at alone.
+    pub(crate) is_checked: bool,
     /// What is counted of the server that serves so.
     pub(crate) counts: Counts,
     /// Where its edits lie until they are kept.
@@ -121,6 +134,13 @@ fn doubt<R: Eprint>(rt: &R, path: &str, line: &[u8]) {
     }
 }
 
+// Says which byte keeps this line from being a key, if one does.
+fn name_byte<R: Eprint>(rt: &R, path: &str, line: &[u8]) {
+    if let Some(remark) = key_remark(line) {
+        let _ = eprintln!(rt; "tacd: {path}: {remark}");
+    }
+}
+
 // The key that is the first line of a file, up to its LF, or all of the file where it has none.
 fn key_of_file<R: Files + Eprint + AllocGlobal>(rt: &R, path: &str) -> Result<Key, Status> {
     let mut file = open_secret(rt, path)?;
@@ -141,13 +161,14 @@ fn key_of_file<R: Files + Eprint + AllocGlobal>(rt: &R, path: &str) -> Result<Ke
             let _ = eprintln!(rt;
                 "tacd: {path}: its first line is not 1 to 128 printable ASCII characters"
             );
+            name_byte(rt, path, line);
             Err(Status::BadCommandLine)
         }
     }
 }
 
-// The key of all devices, of a command line that was parsed without a devices' file.
-fn key_of<R: Files + Eprint + AllocGlobal>(
+/// The key of a command line that was parsed and has one, or the file of one.
+pub(crate) fn key_of<R: Files + Eprint + AllocGlobal>(
     rt: &R,
     matches: &ArgMatches<'_>,
 ) -> Result<Key, Status> {
@@ -164,16 +185,51 @@ fn clear_door(matches: &ArgMatches<'_>) -> Option<ClearDoor> {
     Some(ClearDoor::new())
 }
 
+/// Whether this word of `--log` is standard output.
+pub(crate) fn is_output(path: &str) -> bool {
+    path == "-" || path == "/dev/stdout"
+}
+
+// Whether the lines of a log go to standard output.
+fn has_log_for_output(log: Option<&str>) -> bool {
+    match log {
+        Some(path) => is_output(path),
+        None => false,
+    }
+}
+
+// That standard output is there, and no console has it too, where lines of a log go there. Whether it
+// is there is asked before a file is opened, which would be taken for it.
+fn see_output<R: Files + Eprint>(rt: &R, matches: &ArgMatches<'_>) -> Result<(), Status> {
+    if !has_log_for_output(matches.get_str(LOG)) {
+        return Ok(());
+    }
+    if !matches.get_flag(NO_CONSOLE) && matches.get_str(CONSOLE).is_none() {
+        let _ = eprintln!(rt; "{TWO_FOR_OUTPUT}");
+        return Err(Status::BadCommandLine);
+    }
+    match fs::metadata(rt, STANDARD_OUTPUT) {
+        Ok(_) => Ok(()),
+        Err(error) => {
+            let _ = eprintln!(rt; "tacd: {OUTPUT_NAME}: {error}");
+            Err(Status::of_unopened(error.kind()))
+        }
+    }
+}
+
 // Which devices may call: any by one key, or those of a devices' file.
 fn callers_of<R>(rt: &R, matches: &ArgMatches<'_>) -> Result<Callers, Status>
 where
     R: Files + Print + Eprint + AllocGlobal,
 {
     match matches.get_str(DEVICES_FILE) {
-        Some(path) => Ok(Callers::Listed {
-            directory: directory_of_file(rt, path)?,
-            proxy: clear_door(matches),
-        }),
+        Some(path) => {
+            let mut notices = Notices::new(rt, rt, has_log_for_output(matches.get_str(LOG)));
+            Ok(Callers::Listed {
+                directory: directory_of_file(rt, path, &mut notices)?,
+                proxy: clear_door(matches),
+            })
+        }
         None => {
             let key = key_of(rt, matches)?;
             Ok(Callers::Any(KeyDoor::new(key)))
@@ -268,8 +324,8 @@ fn record_limit_of(most: Option<u32>) -> RecordLimit
 
 impl<'a> Options<'a> {
     /// The options of a command line that was parsed, on a machine with so many processors. The
-    /// error is the status to end with: of the address, which is judged first, or of the key or the
-    /// devices.
+    /// error is the status to end with: of the console beside a log, or of the address, which are
+    /// judged first, or of the key or the devices.
     pub(crate) fn read<R>(
         rt: &R,
         matches: &ArgMatches<'a>,
@@ -278,6 +334,7 @@ impl<'a> Options<'a> {
     where
         R: Files + Print + Eprint + AllocGlobal,
     {
+        see_output(rt, matches)?;
         let address = address_of(rt, matches)?;
         let callers = callers_of(rt, matches)?;
         let proxy = matches.get_str(PROXY);
@@ -299,11 +356,25 @@ impl<'a> Options<'a> {
                 has_console: !matches.get_flag(NO_CONSOLE),
                 console: matches.get_str(CONSOLE),
                 kept: matches.get_str(KEEP_EDITS),
+                is_checked: matches.get_flag(CHECK_ALONE),
                 counts: Counts::new(),
                 tray: Tray::new(),
             }),
             None => Err(Status::BadCommandLine),
         }
+    }
+
+    /// Whether the lines of the log go to standard output.
+    pub(crate) fn has_log_for_output(&self) -> bool {
+        has_log_for_output(self.log)
+    }
+
+    // The file of the log, if it has one.
+    fn log_file(&self) -> Option<&'a str> {
+        if self.has_log_for_output() {
+            return None;
+        }
+        self.log
     }
 
     /// What no file of edits may be.
@@ -312,7 +383,7 @@ impl<'a> Options<'a> {
             Use::of(Some(self.path), "it is the policy's own file"),
             Use::of(self.key_file, "it is the key's file"),
             Use::of(self.devices, "it is the devices' file"),
-            Use::of(self.log, "it is the log's file"),
+            Use::of(self.log_file(), "it is the log's file"),
             Use::of(self.console, "it is the console's socket"),
             Use::of(self.proxy, "it is the proxy's socket"),
         ]

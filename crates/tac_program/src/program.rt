@@ -3,12 +3,17 @@
 ghost use Rattle.std.specs.Prelude.{◌≡◌, ◌≢◌, ◌⊎◌};
 ghost use Rattle.clap.specs.Values.{kind_of};
 
+use crate::asking::ask;
+use crate::asking_line::ASK;
+use crate::checking::check_start;
 use crate::command_line::{
-    CHECK, CONSOLE, DEVICES, DIFF, FILE, GIVEN, LINT, REPLAY, SERVE, TEST, WHY, command, word_of,
+    CHECK, CONSOLE, DEVICES, DIFF, FILE, GIVEN, INPUT_PATH, LINT, REPLAY, SERVE, TEST, VERSION,
+    VERSION_WORD, WHY, command, word_of,
 };
-use crate::complaint::{complain, name_lint};
+use crate::complaint::{STANDARD_INPUT, complain, name_lint};
 use crate::console_client::type_at_console;
 use crate::devices::devices;
+use crate::devices_lint::name_devices_file;
 use crate::importing::{IMPORT, import};
 use crate::opening::open_file;
 use crate::options::Options;
@@ -19,6 +24,7 @@ use crate::status::Status;
 use clap::error::ErrorKind;
 use clap::{ArgMatches, Error};
 use std::alloc::Global;
+use std::io::Read;
 use std::net::{Net, TcpListener, TcpStream};
 use std::process::ExitCode;
 use std::rt::{Env, Files};
@@ -29,34 +35,77 @@ use std::{env, io, thread};
 use tac_journal::LogFiles;
 use tac_keep::KeepFiles;
 use tac_operators::ConsoleHost;
-use tac_review::{CheckEnd, check, lint};
+use tac_review::{CheckEnd, LintEnd, check, lint};
 
-// The policy comes from a file, and what is found goes to standard output.
-fn check_policy<R: Files + Print + Eprint + AllocGlobal>(rt: &R, path: &str) -> Status {
-    let mut file = match open_file(rt, path) {
-        Ok(file) => file,
-        Err(status) => return status,
-    };
-    let outcome = check(rt.alloc(), &mut file, &mut io::writer(rt));
+// Checks the policy that an input of this name has. What is found goes to standard output.
+fn check_input<R, F>(rt: &R, path: &str, name: &str, input: &mut F) -> Status
+where
+    R: Print + Eprint + AllocGlobal,
+    F: Read,
+{
+    let outcome = check(rt.alloc(), input, &mut io::writer(rt));
     match outcome {
         Ok(CheckEnd::Sound) => {}
         Ok(CheckEnd::Refused) => name_lint(rt, path),
-        Err(fault) => complain(rt, path, fault),
+        Err(fault) => complain(rt, name, fault),
     }
     Status::of_check(outcome)
 }
 
 // The same of what a policy probably doesn't mean.
-fn lint_policy<R: Files + Print + Eprint + AllocGlobal>(rt: &R, path: &str) -> Status {
-    let mut file = match open_file(rt, path) {
-        Ok(file) => file,
-        Err(status) => return status,
-    };
-    let outcome = lint(rt.alloc(), &mut file, &mut io::writer(rt));
-    if let Err(fault) = outcome {
-        complain(rt, path, fault);
+fn lint_input<R, F>(rt: &R, path: &str, name: &str, input: &mut F) -> Status
+where
+    R: Files + Print + Eprint + AllocGlobal,
+    F: Read,
+{
+    let outcome = lint(rt.alloc(), input, &mut io::writer(rt));
+    match outcome {
+        Ok(LintEnd::Refused) if path != INPUT_PATH => name_devices_file(rt, path),
+        Ok(_) => {}
+        Err(fault) => complain(rt, name, fault),
     }
     Status::of_lint(outcome)
+}
+
+// The policy comes from a file, or from standard input.
+fn check_policy<R>(rt: &R, path: &str) -> Status
+where
+    R: Files + Input + Print + Eprint + AllocGlobal,
+{
+    if path == INPUT_PATH {
+        return check_input(rt, path, STANDARD_INPUT, &mut rt.reader());
+    }
+    match open_file(rt, path) {
+        Ok(file) => {
+            let mut file = file;
+            check_input(rt, path, path, &mut file)
+        }
+        Err(status) => status,
+    }
+}
+
+fn lint_policy<R>(rt: &R, path: &str) -> Status
+where
+    R: Files + Input + Print + Eprint + AllocGlobal,
+{
+    if path == INPUT_PATH {
+        return lint_input(rt, path, STANDARD_INPUT, &mut rt.reader());
+    }
+    match open_file(rt, path) {
+        Ok(file) => {
+            let mut file = file;
+            lint_input(rt, path, path, &mut file)
+        }
+        Err(status) => status,
+    }
+}
+
+// As `--version` does.
+fn tell_version<R: Print>(rt: &R) -> Status {
+    match println!(rt; "tacd {VERSION}") {
+        Ok(()) => Status::Done,
+        Err(_) => Status::Failed,
+    }
 }
 
 // Prints help to standard output, and what is wrong with the words to standard error.
@@ -98,6 +147,7 @@ where
     H: Net<Listener = TcpListener, Stream = TcpStream> + Copy + Send + Drop + 'static,
 {
     let outcome = match Options::read(rt, matches, processors(host)) {
+        Ok(options) if options.is_checked => check_start(rt, host, &options),
         Ok(options) => serve_by(rt, host, &options),
         Err(status) => Err(status),
     };
@@ -112,6 +162,9 @@ fn look<R>(rt: &R, matches: &ArgMatches<'_>) -> Option<Status>
 where
     R: Files + Input + Print + Eprint + AllocGlobal,
 {
+    if matches.subcommand_matches(VERSION_WORD).is_some() {
+        return Some(tell_version(rt));
+    }
     if let Some(options) = matches.subcommand_matches(CHECK) {
         return Some(check_policy(rt, word_of(options, FILE)));
     }
@@ -137,8 +190,8 @@ where
     Some(devices(rt, options))
 }
 
-// A parse that succeeds has met a subcommand: `serve`, `console`, `replay`, or one that looks at
-// files.
+// A parse that succeeds has met a subcommand: `serve`, `console`, `ask`, `replay`, or one that
+// looks at files.
 fn carry_out<R, H>(rt: &R, host: &H, matches: &ArgMatches<'_>) -> Status
 where
     R: Env + Files + Input + Print + Eprint + AllocGlobal,
@@ -150,6 +203,9 @@ where
     }
     if let Some(options) = matches.subcommand_matches(CONSOLE) {
         return type_at_console(rt, host, options);
+    }
+    if let Some(options) = matches.subcommand_matches(ASK) {
+        return ask(rt, host, options);
     }
     if let Some(options) = matches.subcommand_matches(REPLAY) {
         return replay_script(rt, host, options);

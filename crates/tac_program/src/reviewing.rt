@@ -1,7 +1,9 @@
 //! The reviews of policies in files.
 
-use crate::command_line::{CASES, EDITS, EXIT_CODE, FILE, LINE, NEW, OLD, SERVICE, USER, word_of};
-use crate::complaint::{complain, name_lint, tell_batches};
+use crate::command_line::{
+    CASES, EDITS, EXIT_CODE, FILE, LINE, NEW, OLD, SERVICE, STATUS, USER, word_of,
+};
+use crate::complaint::{STANDARD_INPUT, complain, name_lint, tell_batches};
 use crate::opening::open_file;
 use crate::status::Status;
 use clap::ArgMatches;
@@ -11,9 +13,6 @@ use std::io::Read;
 use std::rt::Files;
 use tac_io::AnswerFault;
 use tac_review::{Input as Which, Review, ReviewEnd, ReviewFault, Table, review};
-
-/// What standard input is called where it is refused or can't be read.
-const STANDARD_INPUT: &str = "standard input";
 
 fn name_of<'a>(names: (&'a str, &'a str), input: Which) -> &'a str {
     match input {
@@ -108,11 +107,19 @@ fn question_of(alloc: Global, user: &str, words: &[&str]) -> Result<Vec<u8>, All
     Ok(question)
 }
 
-// Prints what one question is answered, which is about a user.
-fn explain_one<R>(rt: &R, what: Review, path: &str, user: &str, words: &[&str]) -> Status
+// Prints what one question is answered, which is about a user. The status tells the answer where the
+// command line wants that.
+fn explain_one<R>(
+    rt: &R,
+    what: Review,
+    matches: &ArgMatches<'_>,
+    user: &str,
+    words: &[&str],
+) -> Status
 where
     R: Files + Print + Eprint + AllocGlobal,
 {
+    let path = word_of(matches, FILE);
     let Ok(question) = question_of(rt.alloc(), user, words) else {
         complain(rt, path, AnswerFault::Memory);
         return Status::OutOfMemory;
@@ -123,7 +130,11 @@ where
     };
     let mut asked = question.as_slice();
     let outcome = review_inputs(rt, what, (path, "the question"), &mut file, &mut asked);
-    Status::of_review(outcome, Status::Done)
+    if matches.get_flag(STATUS) {
+        Status::of_question(outcome)
+    } else {
+        Status::of_review(outcome, Status::Done)
+    }
 }
 
 // Prints how each line of standard input is decided.
@@ -146,11 +157,10 @@ pub(crate) fn why<R>(rt: &R, matches: &ArgMatches<'_>) -> Status
 where
     R: Files + Input + Print + Eprint + AllocGlobal,
 {
-    let path = word_of(matches, FILE);
     match (matches.get_str(USER), matches.get_strs(LINE)) {
-        (Some(user), Some(words)) => explain_one(rt, Review::Why, path, user, words),
-        (Some(user), None) => explain_one(rt, Review::Why, path, user, &[]),
-        (None, _) => explain_all(rt, path),
+        (Some(user), Some(words)) => explain_one(rt, Review::Why, matches, user, words),
+        (Some(user), None) => explain_one(rt, Review::Why, matches, user, &[]),
+        (None, _) => explain_all(rt, word_of(matches, FILE)),
     }
 }
 
@@ -159,8 +169,7 @@ pub(crate) fn given<R>(rt: &R, matches: &ArgMatches<'_>) -> Status
 where
     R: Files + Print + Eprint + AllocGlobal,
 {
-    let path = word_of(matches, FILE);
     let user = word_of(matches, USER);
     let service = word_of(matches, SERVICE);
-    explain_one(rt, Review::Given, path, user, &[service])
+    explain_one(rt, Review::Given, matches, user, &[service])
 }

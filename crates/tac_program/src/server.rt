@@ -11,9 +11,10 @@ use crate::complaint::{complain, name_lint};
 use crate::console::{ConsoleInput, NoConsole};
 use crate::descriptors::warn_of_few;
 use crate::keeping::{first_file, tell_of_edits};
+use crate::notices::Notices;
 use crate::opening::{open_desk, open_secret};
 use crate::operators::serve_operators;
-use crate::options::Options;
+use crate::options::{Options, is_output};
 use crate::serving_host::{ServingHost, complaints_of};
 use crate::source::{ConsoleSide, DevicesFile, SecretFile};
 use crate::status::Status;
@@ -28,12 +29,11 @@ use std::time::Clock;
 use tac_desk::{Desk, Query, Report};
 use tac_desks::LiveDesk;
 use tac_hall_console::has_user;
-use tac_journal::{Journal, LogFiles, OneInput, Typists};
+use tac_journal::{Journal, LogFiles, OUTPUT_NAME, OneInput, Typists};
 use tac_keep::KeepFiles;
 use tac_net::{FillingDesk, Listeners, Port, ProxySocket, ServeFault, ServerFiles, serve};
 use tac_operators::ConsoleHost;
 use tac_status::CountedDesk;
-use tac_tally::RecordLimit;
 
 /// The rights of the socket that a proxy calls: its owner's, and those of its group, which is the
 /// proxy's where the folder is.
@@ -52,15 +52,16 @@ fn warn_of_nobody<R: Eprint>(rt: &R, path: &str, desk: &mut LiveDesk) {
     }
 }
 
-// The desk of the policy in a file, which keeps records as the limit says. The error here and below
-// is the status to end with.
-fn desk_of_file<R: Files + Print + Eprint + AllocGlobal>(
+/// The desk of the policy in a file, which keeps records as the options say. The error here and
+/// below is the status to end with.
+pub(crate) fn desk_of_file<R: Files + Print + Eprint + AllocGlobal>(
     rt: &R,
-    limit: RecordLimit,
+    options: &Options<'_>,
     path: &str,
 ) -> Result<LiveDesk, Status> {
     let mut file = open_secret(rt, path)?;
-    match open_desk(rt.alloc(), limit, &mut file, &mut io::writer(rt)) {
+    let mut notices = Notices::new(rt, rt, options.has_log_for_output());
+    match open_desk(rt.alloc(), options.record_limit, &mut file, &mut notices) {
         Ok(Some(mut desk)) => {
             warn_of_nobody(rt, path, &mut desk);
             Ok(desk)
@@ -76,7 +77,24 @@ fn desk_of_file<R: Files + Print + Eprint + AllocGlobal>(
     }
 }
 
-// The file that takes the lines of an auditor.
+// What takes the lines of an auditor, as it was opened by this name.
+fn opened_journal<'a, R: Eprint>(
+    rt: &R,
+    name: &str,
+    opened: io::Result<Journal<'a>>,
+) -> Result<Journal<'a>, Status>
+    ensures { IfErr result (λ status. (status ≡ Status.OutOfMemory) ⊎ (status ≡ Status.Failed)) }
+{
+    match opened {
+        Ok(journal) => Ok(journal),
+        Err(error) => {
+            let _ = eprintln!(rt; "tacd: {name}: {error}");
+            Err(Status::of_unopened(error.kind()))
+        }
+    }
+}
+
+// That at a path, or standard output.
 fn journal_at<'a, R: Eprint, H>(
     rt: &R,
     host: &H,
@@ -87,13 +105,10 @@ where
     H: Clock + LogFiles,
     ensures { IfErr result (λ status. (status ≡ Status.OutOfMemory) ⊎ (status ≡ Status.Failed)) }
 {
-    match Journal::open(host, path, syncs) {
-        Ok(journal) => Ok(journal),
-        Err(error) => {
-            let _ = eprintln!(rt; "tacd: {path}: {error}");
-            Err(Status::of_unopened(error.kind()))
-        }
+    if is_output(path) {
+        return opened_journal(rt, OUTPUT_NAME, Journal::standard_output(host, syncs));
     }
+    opened_journal(rt, path, Journal::open(host, path, syncs))
 }
 
 // The same, where one is asked for.
@@ -287,7 +302,8 @@ where
             clock: host,
             listeners,
         };
-        let console = (input, io::writer(rt), OneInput);
+        let notices = Notices::new(rt, host, options.has_log_for_output());
+        let console = (input, notices, OneInput);
         serve_console(rt, host, options, desk, journal, listeners, console)
     };
     ended(host, outcome)
@@ -315,7 +331,7 @@ where
     H: Threads + Wait + Clock + Sync + AllocGlobal + Eprint + LogFiles + Net + ConsoleHost,
     H: KeepFiles + Net<Listener = TcpListener, Stream = TcpStream> + Copy + Send + Drop + 'static,
 {
-    let desk = desk_of_file(rt, options.record_limit, first)?;
+    let desk = desk_of_file(rt, options, first)?;
     if first != options.path {
         options.tray.begin_with_edits();
         tell_of_edits(rt, options.path, first);

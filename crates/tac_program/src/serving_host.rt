@@ -6,6 +6,7 @@ use std::fmt::Display;
 use std::fs::File;
 use std::io;
 use std::net::{Net, SocketAddr};
+use std::os::fd::OwnedFd;
 use std::os::unix::net::UnixListener;
 use std::sync::{Arc, Wait};
 use std::thread::Threads;
@@ -98,6 +99,14 @@ impl<H: LogFiles> LogFiles for ServingHost<'_, H> {
 
     fn sync_log(&self, file: &File) -> io::Result<()> {
         self.host.sync_log(file)
+    }
+
+    fn open_pipe(&self, path: &str) -> io::Result<File> {
+        self.host.open_pipe(path)
+    }
+
+    fn share_output(&self) -> io::Result<OwnedFd> {
+        self.host.share_output()
     }
 }
 

@@ -3,6 +3,7 @@
 ghost use Rattle.std.specs.Prelude.{IfOk};
 ghost use Rattle.tac_hall_console.specs.DevicesAnswer.{IsDevicesAnswer};
 
+use crate::devices_lint::say_lint;
 use crate::opening::{is_folder, warn_of_readers};
 use basics::Bytes;
 use std::alloc::{AllocError, Global};
@@ -121,6 +122,7 @@ impl<R: Files, H: Wait + Eprint> DevicesFile<'_, R, H> {
     {
         let (line, devices) = renew_devices(alloc, text.as_slice())?;
         let Some(devices) = devices else {
+            say_lint(self.file.host, alloc, self.file.path, text.as_slice());
             return Ok(Bytes::from(line));
         };
         // a directory keeps all that it was given, so it isn't given the same again

@@ -2,15 +2,19 @@
 
 ghost use Rattle.std.specs.Prelude.{◌≡◌, ◌≢◌, ◌⊎◌};
 ghost use Rattle.tac_program.specs.Ending.{status_of, status_of_check, status_of_lint};
-ghost use Rattle.tac_program.specs.Ending.{status_of_listing, status_of_review};
+ghost use Rattle.tac_program.specs.Ending.{status_of_devices_lint, status_of_heard};
+ghost use Rattle.tac_program.specs.Ending.{status_of_listing, status_of_question};
+ghost use Rattle.tac_program.specs.Ending.{status_of_review};
 ghost use Rattle.tac_program.specs.Ending.{status_of_serving};
 
 use clap::error::ErrorKind;
 use std::io::ErrorKind as IoErrorKind;
+use tac_console_client::Heard;
 use tac_devices::ListingEnd;
+use tac_devices_lint::DevicesLintEnd;
 use tac_io::{AnswerFault, InputFault};
 use tac_net::ServeFault;
-use tac_review::{CheckEnd, LintEnd, ReviewEnd, ReviewFault};
+use tac_review::{CheckEnd, LintEnd, Permission, ReviewEnd, ReviewFault};
 use tac_server::{ReplayEnd, ReplayFault};
 
 /// How a run of the program ended, with the number that its caller sees.
@@ -19,17 +23,18 @@ pub(crate) enum Status {
     /// All was done; help counts as that.
     Done = 0,
     /// The script, a policy, a devices' file, an edit, a question or a table has a fault, which was
-    /// printed; or a case isn't so.
+    /// printed; or a case isn't so; or a server that was asked doesn't grant it.
     Refused = 1,
     /// The command line is not one of this program's.
     BadCommandLine = 2,
     /// Memory ran out, or a thread could not be made.
     OutOfMemory = 3,
-    /// Reading or writing failed, a port or the file of a log couldn't be had, or the desk couldn't
-    /// be closed.
+    /// Reading or writing failed, a port or the file of a log couldn't be had, the desk couldn't be
+    /// closed, or a server that was asked gave no answer.
     Failed = 4,
     /// Someone gains or loses a line by the new policy, or it takes edits; or a lint told
-    /// something; or an address may not call; or an edit was made at a console, and isn't kept.
+    /// something; or an address may not call; or an edit was made at a console, and isn't kept; or
+    /// what is asked is denied.
     Differs = 5,
 }
 
@@ -97,15 +102,50 @@ impl Status {
         }
     }
 
+    /// The status of a lint of a devices' file.
+    pub(crate) fn of_devices_lint(outcome: Result<DevicesLintEnd, AnswerFault>) -> Status
+        ensures { result ≡ status_of_devices_lint outcome }
+    {
+        match outcome {
+            Ok(DevicesLintEnd::Quiet) => Status::Done,
+            Ok(DevicesLintEnd::Told) => Status::Differs,
+            Ok(DevicesLintEnd::Refused) => Status::Refused,
+            Err(fault) => Status::of_answer(fault),
+        }
+    }
+
     /// The status of a review, where it is this one if something differs.
     pub(crate) fn of_review(outcome: Result<ReviewEnd, ReviewFault>, differs: Status) -> Status
         ensures { result ≡ status_of_review differs outcome }
     {
         match outcome {
-            Ok(ReviewEnd::Done) => Status::Done,
+            Ok(ReviewEnd::Done | ReviewEnd::Answered(_)) => Status::Done,
             Ok(ReviewEnd::Differs | ReviewEnd::Edited(_)) => differs,
             Ok(ReviewEnd::BadPolicy(_) | ReviewEnd::Refused) => Status::Refused,
             Err(fault) => Status::of_answer(fault.fault),
+        }
+    }
+
+    /// The status of a question's review that tells what was answered.
+    pub(crate) fn of_question(outcome: Result<ReviewEnd, ReviewFault>) -> Status
+        ensures { result ≡ status_of_question outcome }
+    {
+        match outcome {
+            Ok(ReviewEnd::Answered(Permission::Permitted)) => Status::Done,
+            Ok(ReviewEnd::Answered(Permission::Denied)) => Status::Differs,
+            Ok(ReviewEnd::Answered(Permission::Unknown)) => Status::Refused,
+            outcome => Status::of_review(outcome, Status::Done),
+        }
+    }
+
+    /// The status of a client of a console whose lines were answered.
+    pub(crate) fn of_heard(heard: Heard) -> Status
+        ensures { result ≡ status_of_heard heard }
+    {
+        match heard {
+            Heard::Well => Status::Done,
+            Heard::Unkept => Status::Differs,
+            Heard::Refused => Status::Refused,
         }
     }
 

@@ -1,0 +1,2 @@
+$ tacd ask --help
+prints ask-long.out

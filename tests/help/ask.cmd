@@ -1,0 +1,2 @@
+$ tacd ask -h
+prints ask.out
