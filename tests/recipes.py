@@ -1,6 +1,6 @@
-"""What README.md and docs/REVIEW.md tell a reader to run, as it stands there: the job for merge requests,
-on branches that change secrets alone, and commands with what they print. Each case is a function that
-raises Wrong where something goes otherwise."""
+"""What docs/REVIEW.md tells a reader to run, as it stands there: the job for merge requests, on branches that
+change secrets alone, and commands with what they print. Each case is a function that raises Wrong where
+something goes otherwise."""
 
 import os
 import pathlib
@@ -12,9 +12,11 @@ from cases import Case, Check, Outcome, Play, Wrong
 
 LONGEST_RUN = 60
 TOP = pathlib.Path(__file__).resolve().parent.parent
-README, REVIEW = TOP / "README.md", TOP / "docs/REVIEW.md"
+REVIEW = TOP / "docs/REVIEW.md"
 HEADING = "In a merge request"
-# A block of commands, each with what it prints, and the files that a command reads.
+# A block that is a file, with its name; one of commands, each with what it prints, and the files that a
+# command reads.
+NAMED = re.compile(r"^```(?!console)\w+ (\S+)\n(.*?)^```$", re.MULTILINE | re.DOTALL)
 CONSOLE = re.compile(r"^```console\n(.*?)^```$", re.MULTILINE | re.DOTALL)
 COMMAND = re.compile(r"^\$ (.*)\n((?:(?!\$ ).*\n)*)", re.MULTILINE)
 READ = re.compile(r"(?<=< )\S+|\S+\.(?:policy|cases)\b")
@@ -57,7 +59,6 @@ def cases(name):
         a_user_is_removed,
         several_secrets_change,
         there_are_no_edits,
-        commands_of_the_readme,
         commands_of_reviews,
     ):
         expected = Outcome(b"", b"", 0)
@@ -109,22 +110,22 @@ def there_are_no_edits(program):
         raise Wrong("without edits the job passes")
 
 
-def commands_of_the_readme(program):
-    are_so(program, README, 5)
-
-
 def commands_of_reviews(program):
     are_so(program, REVIEW, 13)
+    are_so(program, TOP / "docs/LINT.md", 2)
 
 
 def are_so(program, page, least):
     """Each command that reads examples prints what the page shows below it, of which there are so many, or
-    more. A file that the page shows by `cat` is one that they may read too."""
+    more. A file that the page shows, by `cat` or in a block with its name, is one that they may read too."""
     tried = 0
     with tempfile.TemporaryDirectory(prefix="tacd-test-") as folder:
         folder = pathlib.Path(folder)
         (folder / "tacd").symlink_to(program)
         (folder / "examples").symlink_to(TOP / "examples")
+        for name, text in NAMED.findall(page.read_text("utf-8")):
+            if "/" not in name:
+                (folder / name).write_text(text, "utf-8")
         for command, shown in commands_on(page):
             words = command.split()
             if words[0] == "cat":
@@ -148,10 +149,15 @@ def commands_on(page):
 
 def prints(folder, command, shown):
     ended = subprocess.run(
-        ["sh", "-c", f"./{command}"], cwd=folder, capture_output=True, text=True, timeout=LONGEST_RUN
+        ["sh", "-c", f"./{command}"],
+        cwd=folder,
+        stdout=subprocess.PIPE,
+        stderr=subprocess.STDOUT,
+        text=True,
+        timeout=LONGEST_RUN,
     )
     if ended.stdout != shown:
-        raise Wrong(f"{command} prints\n{ended.stdout}{ended.stderr}and the page has\n{shown}")
+        raise Wrong(f"{command} prints\n{ended.stdout}and the page has\n{shown}")
 
 
 def changes(program, branch, line):
@@ -206,4 +212,4 @@ def made(path, script):
 def blocks():
     """The recipe, and the example below it."""
     section = REVIEW.read_text("utf-8").partition(f"\n## {HEADING}\n")[2].partition("\n## ")[0]
-    return re.findall(r"^```(?:sh)?\n(.*?)^```$", section, re.MULTILINE | re.DOTALL)
+    return re.findall(r"^```(?:sh|text)\n(.*?)^```$", section, re.MULTILINE | re.DOTALL)

@@ -9,8 +9,8 @@ PAGE = (TOP / "docs/TLS.md").read_text()
 
 
 def blocks(text):
-    """The blocks of a text between fences, each with the word of its fence."""
-    return re.findall(r"^ *```(\w*)\n(.*?)^ *```$", text, re.MULTILINE | re.DOTALL)
+    """The blocks of a text between fences, each with the words of its fence."""
+    return re.findall(r"^ *```([^`\n]*)\n(.*?)^ *```$", text, re.MULTILINE | re.DOTALL)
 
 
 def commands(section):
