@@ -1,20 +1,24 @@
--- There is one report of what in a policy was probably not meant.
-use Rattle.std.proofs.Common.{◌≡◌, ℕ, List, Ok, sym, ap, ◌∙◌}
+-- Whether a text is refused is certain.
+use Rattle.std.proofs.Common.{◌≡◌, ◌∷◌, [], ℕ, List, false, Result, Ok, Err, refl, sym, ap, subst, ◌∙◌}
 use Rattle.pol_text.specs.declared.subject.Subject.{Subject}
-use Rattle.pol_meaning.specs.Reach.{Shadows}
-use Rattle.pol_meaning.specs.declared.Shadowed.{Shadowed}
-use Rattle.pol_lint.specs.Remarks.{policy_remarks}
-use Rattle.tac_review.specs.Judged.{IsOnly}
-use Rattle.tac_review.specs.Lint.{Tells, remarks_text, end_of}
+use Rattle.pol_live.specs.Judging.{Judges, IsOnlyJudged}
+use Rattle.pol_live.specs.declared.judging.TextRefusal.{TextRefusal}
+use Rattle.pol_habits.specs.declared.question.Asked.{Asked}
+use Rattle.tac_review.specs.Lint.{Tells, IsOnlyLint, end_of, is_refused}
 use Rattle.tac_review.specs.declared.linting.LintEnd.{LintEnd}
 
-pub remarks_only : (text : List ℕ) (policy : List Subject) (rows : List Shadowed) (output : List ℕ) (end : LintEnd) → Shadows policy rows → ((other : List Shadowed) → Shadows policy other → rows ≡ other)
-    → output ≡ remarks_text (policy_remarks text policy rows) → end ≡ end_of (policy_remarks text policy rows) → IsOnly (Tells text (Ok policy)) output end
-remarks_only text policy rows output end are one p q = record {
-  wanted = (rows, are, p, q);
+not_refused : (asked : List Asked) → is_refused (end_of asked) ≡ false
+not_refused [] = refl
+not_refused (one ∷ more) = refl
+
+same_end : (text : List ℕ) (judged : Result (List Subject) TextRefusal) (output other : List ℕ) (end last : LintEnd) → Tells text judged output end → Tells text judged other last → is_refused last ≡ is_refused end
+same_end text (Ok policy) output other end last one two =
+    ap is_refused two.2 ∙ not_refused two.0 ∙ sym (not_refused one.0) ∙ sym (ap is_refused one.2)
+same_end text (Err refusal) output other end last one two = ap is_refused (two.3 ∙ sym one.3)
+
+pub lint_only : (text : List ℕ) (judged : Result (List Subject) TextRefusal) (output : List ℕ) (end : LintEnd) → Judges text judged → IsOnlyJudged text judged → Tells text judged output end → IsOnlyLint text output end
+lint_only text judged output end judges one tells = record {
+  wanted = (judged, judges, tells);
   only = λ other last w.
-      let same = one w.0 w.1 in (
-        w.2 ∙ ap (λ (found : List Shadowed). remarks_text (policy_remarks text policy found)) (sym same) ∙ sym p,
-        w.3 ∙ ap (λ (found : List Shadowed). end_of (policy_remarks text policy found)) (sym same) ∙ sym q,
-      );
+      same_end text judged output other end last tells (subst (λ (found : Result (List Subject) TextRefusal). Tells text found other last) (sym (one w.0 w.1)) w.2);
 }

@@ -33,8 +33,8 @@ fn answer<R: Read>(alloc: Global, reader: &mut R) -> Result<(Vec<u8>, LintEnd), 
 }
 
 /// Reads a policy's text to its end, and writes what in it is right and probably not meant, or all
-/// that keeps it from being a policy, a line `line N column M: TEXT` for each (docs/REVIEW.md,
-/// "What was probably not meant").
+/// that keeps it from being a policy, a line `line N column M: TEXT` for each (docs/LINT.md).
+/// What is asked about a policy that may stand isn't defined.
 pub fn lint<R: Read, W: Write>(
     alloc: Global,
     reader: &mut R,
@@ -43,8 +43,8 @@ pub fn lint<R: Read, W: Write>(
     // The whole input was read.
     ensures read { OnOk result (IsAtEnd (R.remaining reader.new)) }
 
-    // What was written is exactly what is told of the text, the end is its end, and no others are;
-    // or what a fault leaves: nothing, a beginning of the output, or of the line that says Memory.
+    // What was written is what is told of the text, and the end is its end; or what a fault leaves:
+    // nothing, a beginning of the output, or of the line that says Memory.
     ensures answered { IsAnswered IsOnlyLint (R.remaining reader.old)
         (W.contents writer.old) (W.contents writer.new) result }
 

@@ -1,14 +1,14 @@
-use Rattle.std.proofs.Common.{Ok, Err, refl, ap, ◌∙◌}
-use Rattle.tac_review.specs.Lint.{Tells, remarks_text, faults}
+use Rattle.std.proofs.Common.{Ok, Err, refl}
 use Rattle.tac_review.specs.declared.linting.LintEnd.TheVariants.{Refused}
-use Rattle.tac_review.proofs.OnlyFacts.{ok_so, equal_only, judged_only}
+use Rattle.tac_review.proofs.OnlyFacts.{ok_so}
+use Rattle.tac_review.proofs.LintFacts.{lint_only}
 use Rattle.tac_review.proofs.lint_output.output.Goals as goal
 
 pub returns-in-Ok : goal.returns-in-Ok
 returns-in-Ok c =
     let at = c.in_ok-live.ensures in
     ok_so c.told.result
-    (λ output told. judged_only c.args.text.now (Ok c.in-Ok.live) (Tells c.args.text.now) output.0.items output.1 (rw c.in-Ok.is at at.found) (rw c.in-Ok.is at at.only) told)
+    (λ output told. lint_only c.args.text.now (Ok c.in-Ok.live) output.0.items output.1 (rw c.in-Ok.is at at.found) (rw c.in-Ok.is at at.only) told)
     c.told.ensures
 
 pub returns-in_ok-printed-in-Err : goal.returns-in_ok-printed-in-Err
@@ -16,5 +16,5 @@ returns-in_ok-printed-in-Err c =
     let at = c.in_ok-live.ensures in
     let remarks = c.in_ok-remarks-in-Err in
     let printed = c.in_ok-printed-in-Err in
-    judged_only c.args.text.now (Err c.in-Err.refusal) (Tells c.args.text.now) printed.printed.items Refused (rw c.in-Err.is at at.found) (rw c.in-Err.is at at.only)
-    (equal_only (remarks_text (faults c.args.text.now c.in-Err.refusal)) printed.printed.items Refused Refused (printed.ensures ∙ ap remarks_text remarks.ensures) refl)
+    lint_only c.args.text.now (Err c.in-Err.refusal) printed.printed.items Refused (rw c.in-Err.is at at.found) (rw c.in-Err.is at at.only)
+    (remarks.remarks, remarks.ensures, printed.ensures, refl)

@@ -1,0 +1,3 @@
+mod ChainFacts
+mod PlainFacts
+mod SizeFacts

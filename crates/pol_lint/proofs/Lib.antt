@@ -1,2 +1,0 @@
-mod ChainFacts
-mod HiddenFacts

@@ -1,6 +1,0 @@
-use Rattle.std.proofs.Common.{◌≡◌, take}
-use Rattle.pol_lint.specs.Chains as chains
-use Rattle.pol_lint.proofs.chains.orphans.Given as goal
-
-abbrev pub invariant-headings : goal.invariant-headings
-invariant-headings l = l.remarks ≡ chains.told_of (chains.orphan l.headings) (take l.heading-index l.headings)

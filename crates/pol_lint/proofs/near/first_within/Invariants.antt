@@ -1,7 +1,0 @@
-use Rattle.std.proofs.Common.{◌≡◌, drop}
-use Rattle.pol_lint.specs.Near.{first_within}
-use Rattle.pol_lint.proofs.near.first_within.Given as goal
-
--- none of the words so far
-abbrev pub invariant-words : goal.invariant-words
-invariant-words l = first_within (drop l.word-index l.words) l.from l.most ≡ first_within l.words l.from l.most

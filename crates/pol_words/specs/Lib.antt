@@ -1,0 +1,5 @@
+pub mod FindingText
+pub mod Words
+pub mod Reasons
+pub mod Places
+pub mod Plain
