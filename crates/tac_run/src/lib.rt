@@ -13,4 +13,4 @@ pub use complaint::{
 };
 pub use key::key_of;
 pub use status::Status;
-pub use text::{TextFault, TextFile, warn_of_readers};
+pub use text::{TextFault, TextFile, warn_of_readers, warn_of_readers_at};

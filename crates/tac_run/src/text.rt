@@ -4,11 +4,10 @@ ghost use Rattle.std.specs.Prelude.{◌≡◌, ◌≤◌, IfOk, vec_len};
 ghost use Rattle.tac_run.specs.Ending.{fault_of_input};
 
 use std::alloc::Global;
-use std::fmt;
-use std::fs::{self, OpenFile};
-use std::io;
+use std::fs::{self, Metadata, OpenFile};
 use std::os::unix::fs::PermissionsExt;
 use std::rt::Files;
+use std::{fmt, io};
 use tac_io::{InputFault, read_whole};
 
 /// The right by which any user of a machine reads a file.
@@ -62,22 +61,28 @@ fn is_folder<R: Files>(files: &R, path: &str) -> bool {
     }
 }
 
-// Whether any user of the machine may read a file.
-fn is_read_by_others<F: OpenFile>(file: &F) -> bool {
-    match file.metadata() {
+// Says so of what has secrets, if it is a file that any user of the machine may read. It doesn't
+// matter whether this could be written.
+fn warn_of<E: Eprint>(host: &E, name: &str, found: io::Result<Metadata>) {
+    let is_read_by_others = match found {
         Ok(metadata) => metadata.is_file() && metadata.permissions().mode() & OTHERS_READ != 0,
         Err(_) => false,
+    };
+    if is_read_by_others {
+        let _ = eprintln!(host;
+            "tacd: {name}: it has secrets, and any user of this machine can read it"
+        );
     }
 }
 
-/// Says so of a file that has secrets where others can read them. It doesn't matter whether this
-/// could be written.
+/// Says so of an open file that has secrets where others can read them.
 pub fn warn_of_readers<E: Eprint, F: OpenFile>(host: &E, path: &str, file: &F) {
-    if is_read_by_others(file) {
-        let _ = eprintln!(host;
-            "tacd: {path}: it has secrets, and any user of this machine can read it"
-        );
-    }
+    warn_of(host, path, file.metadata());
+}
+
+/// Says so of what is at a path and is called by this name.
+pub fn warn_of_readers_at<R: Files + Eprint>(rt: &R, name: &str, path: &str) {
+    warn_of(rt, name, fs::metadata(rt, path));
 }
 
 /// A file that has a text.

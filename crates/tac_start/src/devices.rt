@@ -83,7 +83,7 @@ fn tell_remarks<R: Eprint + AllocGlobal>(
 }
 
 /// The devices of the file at a path, of which standard error has the remarks. Where it is refused,
-/// the reason is written to this writer.
+/// the reason is written to this writer, and standard error names what tells more.
 pub fn devices_of_file<R, W: Write>(rt: &R, path: &str, writer: &mut W) -> Result<Devices, Status>
 where
     R: Files + Eprint + AllocGlobal,
@@ -94,7 +94,10 @@ where
             tell_remarks(rt, path, &devices)?;
             Ok(devices)
         }
-        Ok(None) => Err(Status::Refused),
+        Ok(None) => {
+            name_devices_lint(rt, path);
+            Err(Status::Refused)
+        }
         Err(fault) => {
             complain_of_devices(rt, path, fault);
             Err(Status::of_answer(fault))

@@ -12,7 +12,7 @@ use std::rt::Files;
 use std::time::Clock;
 use tac_command_line::{CONSOLE, LOG, NO_CONSOLE};
 use tac_journal::{Journal, LogFiles, NO_REGULAR_FILE, OUTPUT_NAME, STANDARD_OUTPUT, UNSYNCED};
-use tac_run::Status;
+use tac_run::{Status, warn_of_readers_at};
 
 /// What is said where answers of a console would stand among the lines of a log.
 const TWO_FOR_OUTPUT: &str = "error: the console and the log can't both have standard output: \
@@ -53,6 +53,20 @@ pub fn see_output<R: Files + Eprint>(rt: &R, matches: &ArgMatches<'_>) -> Result
     }
 }
 
+// What a word of `--log` is called, and where it is.
+fn place_of(log: &str) -> (&str, &str) {
+    if is_output(log) {
+        return (OUTPUT_NAME, STANDARD_OUTPUT);
+    }
+    (log, log)
+}
+
+// Says so of a log that others can read. It has what was typed at devices, secrets too.
+fn warn_of_readers_of<R: Files + Eprint>(rt: &R, log: &str) {
+    let (name, path) = place_of(log);
+    warn_of_readers_at(rt, name, path);
+}
+
 // What takes the lines of an auditor, as it was opened by this name.
 fn opened_journal<'a, R: Eprint>(
     rt: &R,
@@ -89,7 +103,7 @@ where
 
 /// What takes the lines of an auditor, if this word of `--log` asks for it. The error is the status
 /// to end with, and the reason was said.
-pub fn journal_of<'a, R: Eprint, H>(
+pub fn journal_of<'a, R: Files + Eprint, H>(
     rt: &R,
     host: &H,
     log: Option<&'a str>,
@@ -99,12 +113,15 @@ where
     H: Clock + LogFiles,
     ensures { IfErr result (λ status. (status ≡ Status.OutOfMemory) ⊎ (status ≡ Status.Failed)) }
 {
-    match log {
-        Some(path) => match journal_at(rt, host, path, syncs) {
-            Ok(journal) => Ok(Some(journal)),
-            Err(status) => Err(status),
-        },
-        None => Ok(None),
+    let Some(log) = log else {
+        return Ok(None);
+    };
+    match journal_at(rt, host, log, syncs) {
+        Ok(journal) => {
+            warn_of_readers_of(rt, log);
+            Ok(Some(journal))
+        }
+        Err(status) => Err(status),
     }
 }
 
@@ -152,12 +169,11 @@ pub fn see_log<R: Files + Eprint, H: LogFiles>(
     log: Option<&str>,
     syncs: bool,
 ) -> Result<(), Status> {
-    match log {
-        Some(path) if is_output(path) => {
-            let found = see_log_at(rt, host, STANDARD_OUTPUT, syncs);
-            seen(rt, OUTPUT_NAME, found)
-        }
-        Some(path) => seen(rt, path, see_log_at(rt, host, path, syncs)),
-        None => Ok(()),
-    }
+    let Some(log) = log else {
+        return Ok(());
+    };
+    let (name, path) = place_of(log);
+    seen(rt, name, see_log_at(rt, host, path, syncs))?;
+    warn_of_readers_of(rt, log);
+    Ok(())
 }
