@@ -301,8 +301,11 @@ def what_is_remarked(program):
             "tacd: only 1000 files may be open, too few for 10000 connections at once: raise "
             "'ulimit -n' or LimitNOFILE= to 10019, or lower --connections-at-once\n"
         )
-        words = [*words_of("--workers", "1", "--no-console")[:-1], "nobody"]
-        approves(program, folder, words, readable + nobody + few, before=lambda: limit_files(1000))
+        folder.write("log", "", 0o644)
+        log = readable.replace("key", "log", 1)
+        words = [*words_of("--workers", "1", "--no-console", "--log", "log")[:-1], "nobody"]
+        remarks = readable + nobody + log + few
+        approves(program, folder, words, remarks, before=lambda: limit_files(1000))
 
 
 def nothing_is_made(program):

@@ -905,7 +905,7 @@ def a_line_that_has_no_end(program):
     of whose line only a part fitted."""
     parts = []
     judged = Judged(lambda call: parts.pop() if parts and is_of_log(call) else None, WRITE, clock=Clock())
-    begin = lambda: (pathlib.Path("log").write_text('{"time"'), judged.begin())
+    begin = lambda: (os.umask(0o077), pathlib.Path("log").write_text('{"time"'), judged.begin())
     with Server(program, "--console", "console", "--log", "log", before=begin) as server, judged:
         starts(server)
         log = pathlib.Path(server.folder.name, "log")

@@ -3,6 +3,7 @@ log takes no line. Clocks and failures are those of judged.py. Each case is a fu
 
 import errno
 import json
+import os
 import pathlib
 import stat
 import threading
@@ -108,6 +109,7 @@ def cases(name):
         questions_need_no_clock,
         the_last_moment_of_a_leap_day,
         a_folder_is_no_log,
+        a_log_that_others_read,
     ):
         expected = Outcome(b"", b"", 0)
         yield Case(f"{name}: {play.__name__}", [Check(Play(play), expected, "it was logged")])
@@ -307,3 +309,19 @@ def a_folder_is_no_log(program):
         said = "tacd: log: Is a directory (os error 21)\n"
         server.ends(complained=said, status=4, is_listening=False)
         require(stat.S_ISDIR(pathlib.Path(server.folder.name, "log").stat().st_mode), "it is gone")
+
+
+def made(mode):
+    """A log with these rights, if any, by who makes files for everyone."""
+    os.umask(0)
+    if mode is not None:
+        pathlib.Path("log").touch(mode)
+
+
+def a_log_that_others_read(program):
+    """The start says so, since what was typed at devices is in it. A group may read it, and one that the
+    server makes is its own."""
+    readable = "tacd: log: it has secrets, and any user of this machine can read it\n"
+    for mode, said in ((0o644, readable), (0o604, readable), (0o640, ""), (0o660, ""), (None, "")):
+        with Server(program, "--log", "log", before=lambda mode=mode: made(mode)) as server:
+            server.ends("quit\n", complained=said)

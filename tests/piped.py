@@ -65,6 +65,7 @@ def cases(name):
         a_socket,
         a_pipe_that_cannot_be_opened,
         a_file_as_standard_output,
+        a_standard_output_that_others_read,
         what_is_refused,
         an_output_that_is_closed,
         a_policy_that_is_refused,
@@ -414,6 +415,18 @@ def a_file_as_standard_output(program):
     require(types == ["command", "console"], f"it has {lines}")
 
 
+def a_standard_output_that_others_read(program):
+    """It is a log as any file: the start says so."""
+    readable = f"tacd: {OUTPUT}: it has secrets, and any user of this machine can read it\n"
+    for mode, said in ((0o644, readable), (0o640, "")):
+        with tempfile.TemporaryFile() as file:
+            os.fchmod(file.fileno(), mode)
+            options = ("--console", "console", "--log", "-")
+            with Server(program, *options, output=file.fileno()) as server:
+                require(is_permitted(server), "bob isn't permitted")
+                stops(program, server, said)
+
+
 def what_is_refused(program):
     """At the start, before the port is bound."""
     two = (
@@ -463,10 +476,11 @@ def an_output_that_is_closed(program):
 def a_policy_that_is_refused(program):
     """Why is said on standard error, and so is what is wrong with devices: standard output has lines of
     a log, or nothing."""
-    lint = "tacd: 'tacd lint policy' says more\n"
-    for more, said in (
-        ({"policy": "x"}, f"fault line 1 1 BadLine\n{lint}"),
-        ({"devices": "x", "key": ("--devices", "devices")}, "devices fault line 1 1 BadLine\n"),
+    more = "tacd: 'tacd {} {}' says more\n"
+    listed = {"devices": "x", "key": ("--devices", "devices")}
+    for files, said in (
+        ({"policy": "x"}, "fault line 1 1 BadLine\n" + more.format("lint", "policy")),
+        (listed, "devices fault line 1 1 BadLine\n" + more.format("devices --lint", "devices")),
     ):
-        with Server(program, "--no-console", "--log", "-", **more) as server:
+        with Server(program, "--no-console", "--log", "-", **files) as server:
             server.ends(complained=said, status=1, is_listening=False)

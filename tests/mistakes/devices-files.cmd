@@ -14,13 +14,15 @@ $ tacd serve --port 1 --devices /proc/self/mem nobody
 ! tacd: /proc/self/mem: it could not be read
 status 4
 
-# Why it is refused is printed as by 'tacd devices', and never its text.
+# Why it is refused is printed as by 'tacd devices', and never its text. Standard error names what
+# tells more.
 file key-of-7
 device core
 at 192.0.2.1
 key tun␉dra
 
 $ tacd serve --port 1 --devices key-of-7 nobody
+! tacd: 'tacd devices --lint key-of-7' says more
 devices fault line 3 1 BadLine
 status 1
 
@@ -29,6 +31,7 @@ device core
 at 192.0.2.1
 
 $ tacd serve --port 1 --devices without-a-key nobody
+! tacd: 'tacd devices --lint without-a-key' says more
 devices fault line 1 8 NoKey
 status 1
 
@@ -44,6 +47,7 @@ key tundra
 
 $ tacd serve --port 1 --devices open-to-all nobody
 ! tacd: open-to-all: it has secrets, and any user of this machine can read it
+! tacd: 'tacd devices --lint open-to-all' says more
 devices fault line 3 6 Repeated
 status 1
 

@@ -1,104 +1,33 @@
-//! The program, over any runtime.
+//! The program, over any runtime: which command it is.
 
 ghost use Rattle.std.specs.Prelude.{◌≡◌, ◌≢◌, ◌⊎◌};
 ghost use Rattle.clap.specs.Values.{kind_of};
 
-use crate::asking::ask;
-use crate::asking_line::ASK;
-use crate::checking::check_start;
-use crate::command_line::{
-    CHECK, CONSOLE, DEVICES, DIFF, FILE, GIVEN, INPUT_PATH, LINT, REPLAY, SERVE, TEST, VERSION,
-    VERSION_WORD, WHY, command, word_of,
-};
-use crate::complaint::{STANDARD_INPUT, complain, name_lint};
-use crate::console_client::type_at_console;
-use crate::devices::devices;
-use crate::devices_lint::name_devices_file;
-use crate::importing::{IMPORT, import};
-use crate::opening::open_file;
-use crate::options::Options;
-use crate::replaying::replay_script;
-use crate::reviewing::{diff, given, test, why};
-use crate::server::serve_by;
-use crate::status::Status;
 use clap::error::ErrorKind;
 use clap::{ArgMatches, Error};
 use std::alloc::Global;
-use std::io::Read;
 use std::net::{Net, TcpListener, TcpStream};
 use std::process::ExitCode;
 use std::rt::{Env, Files};
 use std::sync::Wait;
 use std::thread::Threads;
 use std::time::Clock;
-use std::{env, io, thread};
+use std::{env, io};
+use tac_command_line::asking_line::ASK;
+use tac_command_line::importing_line::IMPORT;
+use tac_command_line::{
+    CHECK, CONSOLE, DEVICES, DIFF, FILE, GIVEN, LINT, REPLAY, SERVE, TEST, VERSION, VERSION_WORD,
+    WHY, command, word_of,
+};
+use tac_commands::{
+    ask, check_policy, devices, diff, given, import, lint_policy, replay_script, test,
+    type_at_console, why,
+};
 use tac_journal::LogFiles;
 use tac_keep::KeepFiles;
 use tac_operators::ConsoleHost;
-use tac_review::{CheckEnd, LintEnd, check, lint};
-
-// Checks the policy that an input of this name has. What is found goes to standard output.
-fn check_input<R, F>(rt: &R, path: &str, name: &str, input: &mut F) -> Status
-where
-    R: Print + Eprint + AllocGlobal,
-    F: Read,
-{
-    let outcome = check(rt.alloc(), input, &mut io::writer(rt));
-    match outcome {
-        Ok(CheckEnd::Sound) => {}
-        Ok(CheckEnd::Refused) => name_lint(rt, path),
-        Err(fault) => complain(rt, name, fault),
-    }
-    Status::of_check(outcome)
-}
-
-// The same of what a policy probably doesn't mean.
-fn lint_input<R, F>(rt: &R, path: &str, name: &str, input: &mut F) -> Status
-where
-    R: Files + Print + Eprint + AllocGlobal,
-    F: Read,
-{
-    let outcome = lint(rt.alloc(), input, &mut io::writer(rt));
-    match outcome {
-        Ok(LintEnd::Refused) if path != INPUT_PATH => name_devices_file(rt, path),
-        Ok(_) => {}
-        Err(fault) => complain(rt, name, fault),
-    }
-    Status::of_lint(outcome)
-}
-
-// The policy comes from a file, or from standard input.
-fn check_policy<R>(rt: &R, path: &str) -> Status
-where
-    R: Files + Input + Print + Eprint + AllocGlobal,
-{
-    if path == INPUT_PATH {
-        return check_input(rt, path, STANDARD_INPUT, &mut rt.reader());
-    }
-    match open_file(rt, path) {
-        Ok(file) => {
-            let mut file = file;
-            check_input(rt, path, path, &mut file)
-        }
-        Err(status) => status,
-    }
-}
-
-fn lint_policy<R>(rt: &R, path: &str) -> Status
-where
-    R: Files + Input + Print + Eprint + AllocGlobal,
-{
-    if path == INPUT_PATH {
-        return lint_input(rt, path, STANDARD_INPUT, &mut rt.reader());
-    }
-    match open_file(rt, path) {
-        Ok(file) => {
-            let mut file = file;
-            lint_input(rt, path, path, &mut file)
-        }
-        Err(status) => status,
-    }
-}
+use tac_run::Status;
+use tac_serving::serve_devices;
 
 // As `--version` does.
 fn tell_version<R: Print>(rt: &R) -> Status {
@@ -128,33 +57,6 @@ fn explain<R: Print + Eprint>(rt: &R, error: &Error) -> Status
 
 fn parse<'a>(alloc: Global, words: &'a [String]) -> Result<ArgMatches<'a>, Error> {
     command(alloc)?.try_get_matches_from(words)
-}
-
-// How many processors there are; where the system doesn't tell, one.
-fn processors<H: Threads>(host: &H) -> usize {
-    match thread::available_parallelism(host) {
-        Ok(processors) => processors.get(),
-        Err(_) => 1,
-    }
-}
-
-// A parse that succeeds leaves of the options the address, and the key or the devices' file, to be
-// judged.
-fn serve_clients<R, H>(rt: &R, host: &H, matches: &ArgMatches<'_>) -> Status
-where
-    R: Files + Input + Print + Eprint + AllocGlobal,
-    H: Threads + Wait + Clock + Sync + AllocGlobal + Eprint + LogFiles + ConsoleHost + KeepFiles,
-    H: Net<Listener = TcpListener, Stream = TcpStream> + Copy + Send + Drop + 'static,
-{
-    let outcome = match Options::read(rt, matches, processors(host)) {
-        Ok(options) if options.is_checked => check_start(rt, host, &options),
-        Ok(options) => serve_by(rt, host, &options),
-        Err(status) => Err(status),
-    };
-    match outcome {
-        Ok(()) => Status::Done,
-        Err(status) => status,
-    }
 }
 
 // What looks at files and serves nobody, if that is asked for.
@@ -199,7 +101,7 @@ where
     H: Net<Listener = TcpListener, Stream = TcpStream> + Copy + Send + Drop + 'static,
 {
     if let Some(options) = matches.subcommand_matches(SERVE) {
-        return serve_clients(rt, host, options);
+        return serve_devices(rt, host, options);
     }
     if let Some(options) = matches.subcommand_matches(CONSOLE) {
         return type_at_console(rt, host, options);

@@ -1,4 +1,0 @@
-pub mod Descriptors
-pub mod Opening
-pub mod Ending
-pub mod Telling

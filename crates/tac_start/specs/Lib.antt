@@ -1,0 +1,3 @@
+pub mod Descriptors
+pub mod Devices
+pub mod Opening
