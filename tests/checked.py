@@ -1,5 +1,5 @@
-"""`tacd serve --check`: what it says of each fault is what a start says, it makes and changes nothing, and
-a server that has the same port goes on meanwhile. Each case is a function, as in served.py."""
+"""`tacd serve --check`: what it says of each fault is what a start says, it makes and changes nothing,
+and a server that has the same port goes on meanwhile."""
 
 import contextlib
 import errno
@@ -11,25 +11,12 @@ import subprocess
 import tempfile
 import threading
 
-from cases import Case, Check, Outcome, Play
-from judged import BIND, CHMOD, FSYNC, LISTEN, MKDIR, OPENAT, RENAME, RMDIR, UNLINK, Judged
-from operated import Operator, attended, stops
-from served import (
-    ASK,
-    BLANK,
-    DEVICES,
-    KEPT,
-    KEY,
-    KEY_OF_ONE,
-    LONGEST_WAIT,
-    PERMITTED,
-    POLICY,
-    connect,
-    free_port,
-    is_answered,
-    limit_files,
-    require,
-)
+from bench.lib.server import free_port
+from lib.cases import LONGEST_WAIT, require
+from lib.consoles import Operator, attended, stops
+from lib.devices import ASK, KEPT, PERMITTED, connect, is_answered
+from lib.judged import BIND, CHMOD, FSYNC, LISTEN, MKDIR, OPENAT, RENAME, RMDIR, UNLINK, Judged
+from lib.servers import BLANK, DEVICES, KEY, KEY_OF_ONE, POLICY, limit_files
 
 SOCKET, CONNECT = 41, 42
 # Whom no file of root's is open to.
@@ -38,25 +25,6 @@ UNPRIVILEGED = pathlib.Path("/proc/sys/net/ipv4/ip_unprivileged_port_start")
 # All that a start may need.
 KEEPING = ("--log", "log", "--keep-edits", "kept")
 ALL = ("--console", "console", "--proxy", "proxy", "--devices", "devices", *KEEPING)
-
-
-def cases(name):
-    """Each case of this file, with the name of the function that plays it."""
-    for play in (
-        faults_of_the_command_line,
-        faults_of_files,
-        faults_of_kept_edits,
-        faults_of_logs,
-        faults_of_sockets,
-        faults_of_ports,
-        without_rights,
-        what_is_remarked,
-        nothing_is_made,
-        beside_a_server,
-        an_output_that_fails,
-    ):
-        expected = Outcome(b"", b"", 0)
-        yield Case(f"{name}: {play.__name__}", [Check(Play(play), expected, "starts were checked")])
 
 
 class Folder:
@@ -349,7 +317,6 @@ def beside_a_server(program):
     """One that has the port, the sockets, the log and the lock of the edits goes on, and isn't called."""
     options = {"key": ("--devices", "devices"), "proxy": "proxy"}
     with attended(program, *KEEPING, **options) as server:
-        require(server.process.stdout.readline() == b"listening proxy\n", "it doesn't listen to proxies")
         words = ["--port", str(server.address[1]), *ALL, "policy"]
         with connect(server, "127.0.0.1") as device, Operator(server) as operator:
             asked = {"key": KEY_OF_ONE, "flag": KEPT}
