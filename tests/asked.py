@@ -535,8 +535,10 @@ def a_byte_now_and_then(program):
         asks.comes_to("--timeout", "15", "login", "bob", typed=PASSWORD, printed="PASS\n")
 
 
+UNREAD = "its reply can't be read: it may have another key for this client"
+
+
 def no_reply_to_what_was_asked(program):
-    unread = "its reply can't be read: it may have another key for this client"
     for kind, (words, body, _) in ASKED.items():
         for said, other in (
             ("its reply is of another session", {"session": 7}),
@@ -549,27 +551,31 @@ def no_reply_to_what_was_asked(program):
             ("what it answers isn't TACACS+", {"version": 0xC2}),
             ("its reply is over 131075 bytes long", {"length": 131_076}),
             ("its reply is over 131075 bytes long", {"length": 2**32 - 1}),
-            (unread, {"key": b"taiga"}),
+            (UNREAD, {"key": b"taiga"}),
         ):
             with made(program, answering(body, **other)) as asks:
                 asks.fails(*words, typed=PASSWORD, said=said)
         # A body with a byte less, or one more, is none.
         for body in b"", body[:1], body[:-1], body + b"\0":
             with made(program, answering(body)) as asks:
-                asks.fails(*words, typed=PASSWORD, said=unread)
-    # The second reply of a session is judged as the first.
+                asks.fails(*words, typed=PASSWORD, said=UNREAD)
     for said, other in (
         ("its reply is of another session", {"session": 7}),
         ("its reply has a wrong sequence number", {"number": 2}),
     ):
+        fails_by_its_second_reply(program, said, **other)
 
-        def act(stream):
-            stream.sendall(Packet(stream).reply(authen(5)))
-            stream.sendall(Packet(stream).reply(PASS, **other))
-            wait(stream)
 
-        with made(program, act) as asks:
-            asks.fails("login", "bob", typed=PASSWORD, said=said)
+def fails_by_its_second_reply(program, said, **other):
+    """It is judged as the first."""
+
+    def act(stream):
+        stream.sendall(Packet(stream).reply(authen(5)))
+        stream.sendall(Packet(stream).reply(PASS, **other))
+        wait(stream)
+
+    with made(program, act) as asks:
+        asks.fails("login", "bob", typed=PASSWORD, said=said)
 
 
 def no_tacacs_at_all(program):
@@ -586,25 +592,15 @@ def no_tacacs_at_all(program):
 
         with made(program, act) as asks:
             asks.fails("shell", "bob", said="what it answers isn't TACACS+")
-
-    def closes(count):
-        def act(stream):
-            stream.sendall(Packet(stream).reply(AGREED)[:count])
-
-        return act
-
     for count, said in (
         (0, "it closed the connection without a reply"),
         (1, "it closed the connection within a reply"),
         (12, "it closed the connection within a reply"),
         (17, "it closed the connection within a reply"),
     ):
-        with made(program, closes(count)) as asks:
+        cut = lambda stream: stream.sendall(Packet(stream).reply(AGREED)[:count])
+        with made(program, cut) as asks:
             asks.fails("shell", "bob", said=said)
-
-    def resets(stream):
-        stream.setsockopt(socket.SOL_SOCKET, socket.SO_LINGER, struct.pack("ii", 1, 0))
-
     with made(program, resets) as asks:
         printed, said, status = asks("shell", "bob")
         require((printed, status) == ("", UNANSWERED), f"a reset: {printed!r}, {status}")
@@ -614,6 +610,10 @@ def no_tacacs_at_all(program):
             "Connection reset by peer (os error 104)",  # While it is made.
         )
         require(said in [f"tacd: {asks.to}: {it}\n" for it in told], f"a reset: {said!r}")
+
+
+def resets(stream):
+    stream.setsockopt(socket.SOL_SOCKET, socket.SO_LINGER, struct.pack("ii", 1, 0))
 
 
 def too_much(program):

@@ -419,29 +419,34 @@ def failed_logins_are_held_back(program):
             require(0.9 <= took < 2, f"a wrong login takes {took}")
             took = seconds(device, RIGHT, PASSED, flag=KEPT, id=3)
             require(took < 0.9, f"a right login after it takes {took}")
-        with contextlib.ExitStack() as stack:
-            guesses = b"".join(packet(WRONG, flag=KEPT, id=number) for number in (1, 2, 3))
-            wanted = b"".join(packet(FAILED, flag=KEPT, id=number) for number in (1, 2, 3))
-            for _ in range(50):
-                stack.enter_context(connect(server)).sendall(packet(WRONG, flag=KEPT, id=1))
-            guesser = stack.enter_context(connect(server))
-            came = []
-            thread = threading.Thread(target=lambda: came.append(answer(guesser, guesses, len(wanted))))
-            began = time.monotonic()
-            thread.start()
-            for _ in range(5):
-                with connect(server) as device:
-                    took = seconds(device, RIGHT, PASSED, flag=CLOSING, id=1)
-                    require(took < 0.9, f"beside guessers a right login takes {took}")
-            thread.join()
-            took = time.monotonic() - began
-            require(came == [wanted] and 2.9 <= took < 5, f"in {took} seconds came {came}")
+        guessers_hold_up_nobody(server)
     with Server(program, "--fail-delay", "3000", policy=LOGIN_POLICY) as server, connect(server) as device:
         device.sendall(packet(WRONG, flag=KEPT, id=1))
         time.sleep(0.1)
         began = time.monotonic()
         server.quits()
         require(time.monotonic() - began < 2.5, "the end waits for a reply")
+
+
+def guessers_hold_up_nobody(server):
+    """Of these one guesses three times, and others once."""
+    with contextlib.ExitStack() as stack:
+        guesses = b"".join(packet(WRONG, flag=KEPT, id=number) for number in (1, 2, 3))
+        wanted = b"".join(packet(FAILED, flag=KEPT, id=number) for number in (1, 2, 3))
+        for _ in range(50):
+            stack.enter_context(connect(server)).sendall(packet(WRONG, flag=KEPT, id=1))
+        guesser = stack.enter_context(connect(server))
+        came = []
+        thread = threading.Thread(target=lambda: came.append(answer(guesser, guesses, len(wanted))))
+        began = time.monotonic()
+        thread.start()
+        for _ in range(5):
+            with connect(server) as device:
+                took = seconds(device, RIGHT, PASSED, flag=CLOSING, id=1)
+                require(took < 0.9, f"beside guessers a right login takes {took}")
+        thread.join()
+        took = time.monotonic() - began
+        require(came == [wanted] and 2.9 <= took < 5, f"in {took} seconds came {came}")
 
 
 def failed_logins_are_answered_at_once(program):

@@ -273,43 +273,48 @@ def what_is_remarked(program):
         approves(program, folder, words, readable + nobody + few, before=lambda: limit_files(1000))
 
 
+class Making(Judged):
+    """A process of which the calls are noted that make or change something, or call somebody."""
+
+    def __init__(self):
+        numbers = (OPENAT, SOCKET, BIND, CONNECT, LISTEN, RENAME, MKDIR, RMDIR, UNLINK, CHMOD, FSYNC)
+        super().__init__(self.note, *numbers)
+        self.made = []
+
+    def note(self, call):
+        if call.number == OPENAT:
+            if call.arguments[2] & (os.O_CREAT | os.O_TRUNC | os.O_WRONLY | os.O_RDWR):
+                self.made.append(("open", call.text(1), call.arguments[2]))
+        elif call.number == SOCKET:
+            if call.arguments[1] & 0xF != socket.SOCK_DGRAM:
+                self.made.append(("socket", call.arguments))
+        elif call.number == BIND:
+            self.made.append(("bind",))
+        else:
+            self.made.append(call)
+
+
 def nothing_is_made(program):
     """Of all calls of the system that make or change something there is none, and nobody is called. The
     one socket is of UDP, and nobody hears there."""
-    calls = []
-
-    def judge(call):
-        if call.number == OPENAT:
-            if call.arguments[2] & (os.O_CREAT | os.O_TRUNC | os.O_WRONLY | os.O_RDWR):
-                calls.append(("open", call.text(1), call.arguments[2]))
-        elif call.number == SOCKET:
-            if call.arguments[1] & 0xF != socket.SOCK_DGRAM:
-                calls.append(("socket", call.arguments))
-        elif call.number == BIND:
-            calls.append(("bind",))
-        else:
-            calls.append(call)
-
-    numbers = (OPENAT, SOCKET, BIND, CONNECT, LISTEN, RENAME, MKDIR, RMDIR, UNLINK, CHMOD, FSYNC)
     with Folder(kept=POLICY) as folder:
         os.mkfifo(f"{folder.name}/fifo", 0o600)
         for options in (ALL, ["--key-file", "key", "--no-console", "--log", "fifo"]):
-            calls.clear()
-            judged = Judged(judge, *numbers)
+            making = Making()
             process = subprocess.Popen(
                 ["tacd", "serve", "--check", "--port", str(free_port()), *options, "policy"],
                 executable=program,
                 cwd=folder.name,
-                preexec_fn=judged.begin,
+                preexec_fn=making.begin,
                 stdin=subprocess.DEVNULL,
                 stdout=subprocess.PIPE,
                 stderr=subprocess.PIPE,
             )
             was = folder.all()
-            with judged:
+            with making:
                 printed, said = process.communicate(timeout=LONGEST_WAIT)
             require((printed, process.returncode) == (b"ok\n", 0), f"it ends by {printed} {said}")
-            require(calls == [("bind",)], f"it makes these calls: {calls}")
+            require(making.made == [("bind",)], f"it makes these calls: {making.made}")
             require(folder.all() == was, "it makes or changes something")
 
 

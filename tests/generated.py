@@ -476,6 +476,25 @@ def longest_replies():
         )
 
 
+TYPED_AT_THE_LIMIT = (
+    ("console service group ops x b=", "refused 10 Limit"),
+    ("console service group ops y", "refused 10 Limit"),
+    ("console refuse group ops y", "refused 10 Limit"),
+    (f"console service group ops x {ATTRIBUTES[0]}", "refused 3 Exists"),
+    ("console service group ops x b", "refused 9 BadValue"),
+    ("console service group ops y b", "refused 9 BadValue"),
+    (
+        f"console clear service group ops x {ATTRIBUTES[0]}",
+        f"ok\nuser bob service x no longer gives: {ATTRIBUTES[0]}",
+    ),
+    ("console service group ops x b=", "ok\nuser bob service x now gives: b="),
+    (
+        f"packet 1 {asked(['service=x'])}",
+        f"reply 1 {granted([*ATTRIBUTES[1:], 'b='])}\nclosed 1",
+    ),
+)
+
+
 @scripts
 def lines_about_services_at_the_limit():
     """Where there are 64 one more is refused, and taken once one is gone."""
@@ -495,23 +514,7 @@ def lines_about_services_at_the_limit():
         script = f"key k\n{given('x')}{lines}\nrun\n"
         yield f"then {lines[:40]!r}", script, f"fault line {fault}\n"
     script, printed = opened(given("x") + "user bob in ops\n"), ""
-    for line, answer in (
-        ("console service group ops x b=", "refused 10 Limit"),
-        ("console service group ops y", "refused 10 Limit"),
-        ("console refuse group ops y", "refused 10 Limit"),
-        (f"console service group ops x {ATTRIBUTES[0]}", "refused 3 Exists"),
-        ("console service group ops x b", "refused 9 BadValue"),
-        ("console service group ops y b", "refused 9 BadValue"),
-        (
-            f"console clear service group ops x {ATTRIBUTES[0]}",
-            f"ok\nuser bob service x no longer gives: {ATTRIBUTES[0]}",
-        ),
-        ("console service group ops x b=", "ok\nuser bob service x now gives: b="),
-        (
-            f"packet 1 {asked(['service=x'])}",
-            f"reply 1 {granted([*ATTRIBUTES[1:], 'b='])}\nclosed 1",
-        ),
-    ):
+    for line, answer in TYPED_AT_THE_LIMIT:
         script += f"{line}\n"
         printed += f"{answer}\n"
         yield f"up to {line[:40]}", script, printed

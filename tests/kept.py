@@ -98,6 +98,17 @@ def tells_kept(operator, wanted):
     require(came == wanted, f"it tells that edits are kept by {came}")
 
 
+# What is done with the disk when it refuses, the error, and whether the edit is in the file then.
+REFUSALS = (
+    (f"open {DRAFT}", errno.ENOSPC, False),
+    (f"write {DRAFT}", errno.ENOSPC, False),
+    (f"sync {DRAFT}", errno.EIO, False),
+    (f"rename {DRAFT} {KEPT}", errno.EIO, False),
+    ("open .", errno.EMFILE, True),
+    ("sync .", errno.EIO, True),
+)
+
+
 def a_disk_that_refuses(program):
     """Whatever it refuses is told before the answer. What was kept before stays, no draft takes room, and
     with the next answer it is tried again."""
@@ -112,14 +123,7 @@ def a_disk_that_refuses(program):
         kept, lines = path / KEPT, FIRST.replace("; ", "\n")
         told(operator, ("add user u", "ok"))
         lines += "user u\n"
-        for number, (done, error, is_there) in enumerate((
-            (f"open {DRAFT}", errno.ENOSPC, False),
-            (f"write {DRAFT}", errno.ENOSPC, False),
-            (f"sync {DRAFT}", errno.EIO, False),
-            (f"rename {DRAFT} {KEPT}", errno.EIO, False),
-            ("open .", errno.EMFILE, True),
-            ("sync .", errno.EIO, True),
-        )):
+        for number, (done, error, is_there) in enumerate(REFUSALS):
             refusals.append((done, error))
             why = f"{os.strerror(error)} (os error {error})"
             told(operator, (f"add user u{number}", f"not kept: {why}\nok"))

@@ -343,13 +343,10 @@ def how_an_input_ends(program):
             server.ends(typed, answers)
 
 
-def other_policies(program):
-    """What differs is told for each user, those of the new policy in its order, and those who are gone
-    last. Where none may stand nothing changes, and only one that is too large is a call, after the
-    question for the present one. An open batch stays, and is judged on the policy that there is at its
-    `commit`."""
-    converses(
-        program,
+GONE = "tacd: policy: {} of {} users are gone\n"
+# Other policies are loaded, and what standard error says of it.
+RELOADS = (
+    (
         """
         < group ops; permit ping; user bob in ops
         > reload
@@ -377,9 +374,9 @@ def other_policies(program):
         > rotate
         rotated 0 entries 9
         """,
-    )
-    converses(
-        program,
+        "",
+    ),
+    (
         """
         < group ops; permit show .*; deny (; user bob in ops
         > reload
@@ -405,9 +402,9 @@ def other_policies(program):
         > rotate
         rotated 1 entries 4
         """,
-    )
-    converses(
-        program,
+        "",
+    ),
+    (
         """
         > begin
         ok
@@ -443,107 +440,110 @@ def other_policies(program):
         > rotate
         rotated 0 entries 7
         """,
-        complained=GONE.format(1, 1) * 2,
-    )
+        GONE.format(1, 1) * 2,
+    ),
+)
 
 
-GONE = "tacd: policy: {} of {} users are gone\n"
+def other_policies(program):
+    """What differs is told for each user, those of the new policy in its order, and those who are gone
+    last. Where none may stand nothing changes, and only one that is too large is a call, after the
+    question for the present one. An open batch stays, and is judged on the policy that there is at its
+    `commit`."""
+    for talk, complained in RELOADS:
+        converses(program, talk, complained=complained)
+
+
+FEWER_AND_FEWER = """
+    < user a; user b; user c; user d; user bob
+    > reload
+    ok
+    |user bob now denies: show |
+    < user a; user b; user e; user g; user h
+    > reload
+    ok
+    3 of 5 users are gone
+    < user a; user b; user e; user i; user j; user k; user l
+    > reload
+    ok
+    < user a; user b; user e; user m; group i; group j; group k; group l
+    > reload
+    ok
+    4 of 7 users are gone
+    < user b; user m; group a; group e; permit x; user n in e
+    > reload
+    ok
+    user n now permits: x
+    < user o; deny .*a..............
+    > reload
+    fault TooManyStates user o
+    < user n; user x; permit x
+    > reload
+    ok
+    user n now denies: x
+    user x now permits: x
+    2 of 3 users are gone
+    """
 
 
 def users_who_are_gone(program):
     """Where fewer than half of the users are there still, by name, a reload says so last, and standard
     error too: not at half. A group of a user's name is no user, and new users don't count."""
-    converses(
-        program,
-        """
-        < user a; user b; user c; user d; user bob
-        > reload
-        ok
-        |user bob now denies: show |
-        < user a; user b; user e; user g; user h
-        > reload
-        ok
-        3 of 5 users are gone
-        < user a; user b; user e; user i; user j; user k; user l
-        > reload
-        ok
-        < user a; user b; user e; user m; group i; group j; group k; group l
-        > reload
-        ok
-        4 of 7 users are gone
-        < user b; user m; group a; group e; permit x; user n in e
-        > reload
-        ok
-        user n now permits: x
-        < user o; deny .*a..............
-        > reload
-        fault TooManyStates user o
-        < user n; user x; permit x
-        > reload
-        ok
-        user n now denies: x
-        user x now permits: x
-        2 of 3 users are gone
-        """,
-        complained=GONE.format(3, 5) + GONE.format(4, 7) + GONE.format(2, 3),
-    )
+    complained = GONE.format(3, 5) + GONE.format(4, 7) + GONE.format(2, 3)
+    converses(program, FEWER_AND_FEWER, complained=complained)
+
+
+NOBODY_AFTER_BOB = """
+    < # nobody
+    > reload
+    fault NoUser
+    < policy 2
+    > reload
+    fault NoUser
+    < group bob; permit show .*; group ops in bob
+    > reload
+    fault NoUser
+    > why bob show x
+    permitted by group ops rule 1
+    > rotate
+    rotated 0 entries 4
+    > remove user bob
+    ok
+    |user bob now denies: show |
+    > reload
+    ok
+    < user bob
+    > reload
+    ok
+    < group bob
+    > reload
+    fault NoUser
+    > rotate
+    rotated 1 entries 6
+    """
+NOBODY_AT_FIRST = """
+    > reload
+    ok
+    < group ops
+    > reload
+    ok
+    < user bob
+    > reload
+    ok
+    < group ops
+    > reload
+    fault NoUser
+    """
 
 
 def a_policy_of_nobody(program):
     """It isn't taken where the present policy has a user: everyone would be denied, and no device would
     go on to its own users. Where that has none either it is, as at the start, which standard error
     tells."""
-    converses(
-        program,
-        """
-        < # nobody
-        > reload
-        fault NoUser
-        < policy 2
-        > reload
-        fault NoUser
-        < group bob; permit show .*; group ops in bob
-        > reload
-        fault NoUser
-        > why bob show x
-        permitted by group ops rule 1
-        > rotate
-        rotated 0 entries 4
-        > remove user bob
-        ok
-        |user bob now denies: show |
-        > reload
-        ok
-        < user bob
-        > reload
-        ok
-        < group bob
-        > reload
-        fault NoUser
-        > rotate
-        rotated 1 entries 6
-        """,
-    )
+    converses(program, NOBODY_AFTER_BOB)
     nobody = "tacd: policy: the policy has no user: nobody can log in\n"
     for policy in ("", "# nobody\n", "group bob\npermit show .*\n"):
-        converses(
-            program,
-            """
-            > reload
-            ok
-            < group ops
-            > reload
-            ok
-            < user bob
-            > reload
-            ok
-            < group ops
-            > reload
-            fault NoUser
-            """,
-            complained=nobody,
-            policy=policy,
-        )
+        converses(program, NOBODY_AT_FIRST, complained=nobody, policy=policy)
 
 
 def files_of_any_name(program):
@@ -568,43 +568,42 @@ def files_of_any_name(program):
         server.ends("quit\n", is_listening=False)
 
 
+OTHER_DEVICES = """
+    > begin
+    ok
+    > insert group ops 1 deny show .*
+    kept 1
+    << device core-1; at 192.0.2.1; at 2001:db8::1; key wintry-tundra-ridge-41; device access; at 192.0.2.128/25; key short
+    > reload devices
+    devices ok: 2 devices, 3 prefixes
+    << device one; key fjord; ; at 192.0.2.1/24
+    > reload devices
+    devices fault line 4 4 BadPrefix
+    << device one; at ::1
+    > reload devices
+    devices fault line 1 8 NoKey
+    |<< |
+    > reload devices
+    devices unread devices: No such file or directory (os error 2)
+    > insert group ops 1 permit ping
+    kept 2
+    > commit
+    ok
+    user bob now permits: ping
+    |user bob now denies: show |
+    > rotate
+    rotated 0 entries 1
+    """
+
+
 def other_devices(program):
     """Whatever comes of the file, it is no call, and a batch stays open. Standard error says why it is
     refused."""
     bits = "line 4 column 4: bits are set after the first 24: is '192.0.2.0/24' meant, or '192.0.2.1'?"
     lacks = "line 1 column 1: this device has neither 'key' nor 'tls', or an 'old-key' and no 'key'"
-    converses(
-        program,
-        """
-        > begin
-        ok
-        > insert group ops 1 deny show .*
-        kept 1
-        << device core-1; at 192.0.2.1; at 2001:db8::1; key wintry-tundra-ridge-41; device access; at 192.0.2.128/25; key short
-        > reload devices
-        devices ok: 2 devices, 3 prefixes
-        << device one; key fjord; ; at 192.0.2.1/24
-        > reload devices
-        devices fault line 4 4 BadPrefix
-        << device one; at ::1
-        > reload devices
-        devices fault line 1 8 NoKey
-        |<< |
-        > reload devices
-        devices unread devices: No such file or directory (os error 2)
-        > insert group ops 1 permit ping
-        kept 2
-        > commit
-        ok
-        user bob now permits: ping
-        |user bob now denies: show |
-        > rotate
-        rotated 0 entries 1
-        """,
-        complained="".join(f"tacd: devices: {told}\n" for told in (bits, lacks)),
-        key=("--devices", "devices"),
-        devices=ONE,
-    )
+    complained = "".join(f"tacd: devices: {told}\n" for told in (bits, lacks))
+    named = {"key": ("--devices", "devices"), "devices": ONE}
+    converses(program, OTHER_DEVICES, complained=complained, **named)
 
 
 def no_memory_for_devices(program):
@@ -685,6 +684,28 @@ def answered_where_the_log_fails(program):
         server.ends("quit\n", complained=f"tacd: log: {why}\n", is_listening=False)
 
 
+# Who typed each line of those who share a console, as the log has it.
+TYPED_BY = [
+    (None, "why bob ping"),
+    ("anna", "begin"),
+    ("anna", "insert group ops 1 deny ping"),
+    ("ben", "why bob show"),
+    ("ben", "reload devices"),
+    ("ben", "reload"),
+    ("ben", "rotate"),
+    ("ben", "nonsense"),
+    ("anna", "commit"),
+    ("ben", "drop group ops 1"),
+    (None, "begin"),
+    (None, "insert group ops 1 deny show .*"),
+    (None, "abandon"),
+    ("ben", "begin"),
+    ("ben", "abandon"),
+    ("ben", "why bob show x"),
+    ("anna", "quit"),
+]
+
+
 def operators_who_share_a_console(program):
     """While one has a batch open others' edits are `busy`, and all else is answered. Who goes loses it.
     The log has the name of who typed a line."""
@@ -708,26 +729,7 @@ def operators_who_share_a_console(program):
             told(ben, ("abandon", "ok"), ("why bob show x", "permitted by group ops rule 1"))
             stops(server, anna)
         logged = [(event["operator"], event["console"]) for event in events(server)]
-    wanted = [
-        (None, "why bob ping"),
-        ("anna", "begin"),
-        ("anna", "insert group ops 1 deny ping"),
-        ("ben", "why bob show"),
-        ("ben", "reload devices"),
-        ("ben", "reload"),
-        ("ben", "rotate"),
-        ("ben", "nonsense"),
-        ("anna", "commit"),
-        ("ben", "drop group ops 1"),
-        (None, "begin"),
-        (None, "insert group ops 1 deny show .*"),
-        (None, "abandon"),
-        ("ben", "begin"),
-        ("ben", "abandon"),
-        ("ben", "why bob show x"),
-        ("anna", "quit"),
-    ]
-    require(logged == wanted, f"the log has {logged}")
+    require(logged == TYPED_BY, f"the log has {logged}")
 
 
 REFUSING = "policy 3\n" + POLICY + "user carla\nrefuse junos-exec\n"
@@ -987,6 +989,20 @@ BEGINS = f"tacd: kept: {NO_ROOM}; edits aren't kept\n"
 IS_OVER = "tacd: kept: edits are kept again\n"
 
 
+def is_not_removed(keeping):
+    """A reload can't remove the file, and later it can."""
+    keeping.kept.unlink()
+    keeping.kept.mkdir()
+    replace(keeping.server, "policy", "group ops; user bob in ops")
+    loaded = "ok\nuser bob now denies: show \n2 of 3 users are gone"
+    keeping.asks("reload", f"{NOT_KEPT}{loaded}", None)
+    keeping.asks("why bob show run", "denied by default", None)
+    keeping.tells(edits_kept=0, serves_edits=0)
+    keeping.kept.rmdir()
+    keeping.asks("why bob show run", "denied by default", None)
+    keeping.tells(edits_kept=1, serves_edits=0)
+
+
 def a_store_that_is_full(program):
     """Where the file isn't taken, a note comes once, before the answer to the line whose edit isn't
     kept, and the file is as it was. It is tried again before each later answer, and at the end."""
@@ -1003,17 +1019,7 @@ def a_store_that_is_full(program):
         keeping.draft.rmdir()
         keeping.asks("why bob show run", permitted, ann)
         keeping.tells(edits_kept=1, serves_edits=1)
-        # One that can't be removed.
-        keeping.kept.unlink()
-        keeping.kept.mkdir()
-        replace(keeping.server, "policy", "group ops; user bob in ops")
-        loaded = "ok\nuser bob now denies: show \n2 of 3 users are gone"
-        keeping.asks("reload", f"{NOT_KEPT}{loaded}", None)
-        keeping.asks("why bob show run", "denied by default", None)
-        keeping.tells(edits_kept=0, serves_edits=0)
-        keeping.kept.rmdir()
-        keeping.asks("why bob show run", "denied by default", None)
-        keeping.tells(edits_kept=1, serves_edits=0)
+        is_not_removed(keeping)
         keeping.draft.mkdir()
         keeping.asks("add user eve", f"{NOT_KEPT}ok", None)
         keeping.draft.rmdir()
@@ -1042,36 +1048,42 @@ NOT_LEFT = "no server left this here"
 DRAFT, LOCK = "./.kept.tacd-draft", "./.kept.tacd-lock"
 
 
+LOGS = ("--log", "log")
+NAMED = {"key": ("--devices", "devices"), "devices": ONE}
+# Places that are none for edits, why, what lies there, and options of the server.
+OTHER_USES = (
+    ("policy", IS_POLICY, nothing, (), {}),
+    ("./policy", IS_POLICY, nothing, (), {}),
+    ("kept", IS_POLICY, links("policy", "kept"), (), {}),
+    ("kept", NO_ROOM, leads("kept", "policy"), (), {}),
+    ("kept", NO_ROOM, lambda folder: (folder / "kept").mkdir(), (), {}),
+    ("key", IS_KEY, nothing, (), {}),
+    ("kept", IS_KEY, links("key", "kept"), (), {}),
+    ("devices", IS_DEVICES, nothing, (), NAMED),
+    ("log", IS_LOG, nothing, LOGS, {}),
+    ("./log", IS_LOG, writes("log", 0o600), LOGS, {}),
+    ("here/log", IS_LOG, leads("here", "."), LOGS, {}),
+    ("console", IS_CONSOLE, nothing, (), {}),
+)
+# What lies where a server makes its own files, and why it isn't one.
+IN_THE_WAY = (
+    (links("policy", DRAFT), f"{DRAFT}: {IS_POLICY}"),
+    (links("key", LOCK), f"{LOCK}: {IS_KEY}"),
+    (writes(DRAFT, 0o640), f"{DRAFT}: {NOT_LEFT}"),
+    (writes(LOCK, 0o640), f"{LOCK}: {NOT_LEFT}"),
+    (leads(DRAFT, "policy"), f"{DRAFT}: {NO_ROOM}"),
+    (leads(LOCK, "kept"), f"{LOCK}: {NO_ROOM}"),
+    (lambda folder: (folder / DRAFT).mkdir(), f"{DRAFT}: {NO_ROOM}"),
+    (lambda folder: os.mkfifo(folder / LOCK), f"{LOCK}: {NO_ROOM}"),
+)
+
+
 def what_is_no_place_for_edits(program):
     """A file of another use, by any name, is none, also where it isn't there yet; nor is what isn't a
     regular file. What lies where a server makes its own files has to be what a server left."""
-    logs = ("--log", "log")
-    named = {"key": ("--devices", "devices"), "devices": ONE}
-    for path, why, lay, options, more in (
-        ("policy", IS_POLICY, nothing, (), {}),
-        ("./policy", IS_POLICY, nothing, (), {}),
-        ("kept", IS_POLICY, links("policy", "kept"), (), {}),
-        ("kept", NO_ROOM, leads("kept", "policy"), (), {}),
-        ("kept", NO_ROOM, lambda folder: (folder / "kept").mkdir(), (), {}),
-        ("key", IS_KEY, nothing, (), {}),
-        ("kept", IS_KEY, links("key", "kept"), (), {}),
-        ("devices", IS_DEVICES, nothing, (), named),
-        ("log", IS_LOG, nothing, logs, {}),
-        ("./log", IS_LOG, writes("log", 0o600), logs, {}),
-        ("here/log", IS_LOG, leads("here", "."), logs, {}),
-        ("console", IS_CONSOLE, nothing, (), {}),
-    ):
+    for path, why, lay, options, more in OTHER_USES:
         isnt_begun(program, path, f"{path}: {why}", lay, *options, **more)
-    for lay, why in (
-        (links("policy", DRAFT), f"{DRAFT}: {IS_POLICY}"),
-        (links("key", LOCK), f"{LOCK}: {IS_KEY}"),
-        (writes(DRAFT, 0o640), f"{DRAFT}: {NOT_LEFT}"),
-        (writes(LOCK, 0o640), f"{LOCK}: {NOT_LEFT}"),
-        (leads(DRAFT, "policy"), f"{DRAFT}: {NO_ROOM}"),
-        (leads(LOCK, "kept"), f"{LOCK}: {NO_ROOM}"),
-        (lambda folder: (folder / DRAFT).mkdir(), f"{DRAFT}: {NO_ROOM}"),
-        (lambda folder: os.mkfifo(folder / LOCK), f"{LOCK}: {NO_ROOM}"),
-    ):
+    for lay, why in IN_THE_WAY:
         isnt_begun(program, "kept", why, lay)
     for path in (DRAFT, LOCK):
         isnt_begun(program, "kept", f"{path}: {IS_LOG}", nothing, "--log", path)

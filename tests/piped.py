@@ -401,17 +401,21 @@ def what_is_refused(program):
             ("/dev/full", aside, subprocess.PIPE, f"tacd: /dev/full: {NO_FILE}\n", 4),
         ):
             words = ["serve", "--port", "1", "--key", "k", "--log", log, *options, "policy"]
-            run = subprocess.run(
-                [program, *words],
-                cwd=folder,
-                stdin=subprocess.DEVNULL,
-                stdout=output,
-                stderr=subprocess.PIPE,
-                timeout=LONGEST_WAIT,
-            )
-            came = (run.stdout or b"", run.stderr.decode(), run.returncode)
+            came = ran(program, words, folder, output)
             require(came == (b"", said, status), f"{log} {options} ends by {came}")
         os.close(nowhere)
+
+
+def ran(program, words, folder, output):
+    run = subprocess.run(
+        [program, *words],
+        cwd=folder,
+        stdin=subprocess.DEVNULL,
+        stdout=output,
+        stderr=subprocess.PIPE,
+        timeout=LONGEST_WAIT,
+    )
+    return run.stdout or b"", run.stderr.decode(), run.returncode
 
 
 def an_output_that_is_closed(program):

@@ -179,6 +179,17 @@ def certificates(program):
         ends(program, server, other.format("192.0.2.3"))
 
 
+# What a proxy says of a device of which it verified nothing.
+UNVERIFIED = (
+    {"verify": 1},
+    {"verify": 0x12000000},
+    {"client": BY_TLS},
+    {"client": BY_TLS, "verify": 1},
+    {"client": SHOWN | SHOWN_BEFORE},
+    {"client": 0},
+)
+
+
 def nothing_verified(program):
     """A device of which the proxy says that it verified no certificate comes in by neither form of
     `tls`: its certificate isn't right, it showed none, or it didn't come by TLS. Where the proxy
@@ -198,14 +209,7 @@ def nothing_verified(program):
         heads = [
             header(address, b"core-1.example", **told)
             for address in ("192.0.2.1", "192.0.2.3")
-            for told in (
-                {"verify": 1},
-                {"verify": 0x12000000},
-                {"client": BY_TLS},
-                {"client": BY_TLS, "verify": 1},
-                {"client": SHOWN | SHOWN_BEFORE},
-                {"client": 0},
-            )
+            for told in UNVERIFIED
         ]
         for head in heads:
             with called(server, head) as device:

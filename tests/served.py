@@ -223,6 +223,23 @@ def tallied(server, subject, *counts):
     types(server, f"tally {subject}", f"tally {subject} {counted}")
 
 
+def a_thousand_records(server, device):
+    """As many as are kept, of which the first 500 go with the next one."""
+    account(device, 2, "bob", "task_id=1")
+    account(device, 2, "bob", "task_id=2")
+    account(device, 8, "bob", "task_id=1", "elapsed_time=50")
+    account(device, 4, "bob", "task_id=4", "elapsed_time=2", *RELOAD)
+    account(device, 4, "bob", "task_id=8", "elapsed_time=3")
+    account(device, 10, "zed", "task_id=0", times=495)
+    account(device, 2, "bob", "task_id=3")
+    account(device, 2, "bob", "task_id=8")
+    tallied(server, "user bob", 4, 2, 1, 0, 4, 5, 1)
+    account(device, 4, "bob", "task_id=1", "elapsed_time=5")
+    account(device, 4, "bob", "task_id=5", "elapsed_time=2", *RELOAD)
+    account(device, 10, "zed", "task_id=0", times=496)
+    tallied(server, "user bob", 4, 4, 1, 0, 3, 12, 2)
+
+
 def what_is_forgotten_counts_nowhere(program):
     """A task whose start was forgotten is open no more, and its stop is a stop and ends nothing. A
     task whose stop was forgotten, and not the start after it, is open. Stops that are denied count
@@ -230,19 +247,7 @@ def what_is_forgotten_counts_nowhere(program):
     options = ("--workers", "1", "--keep-records", "1000")
     with Server(program, *options, policy=FORGETTING) as server, connect(server) as device:
         starts(server)
-        account(device, 2, "bob", "task_id=1")
-        account(device, 2, "bob", "task_id=2")
-        account(device, 8, "bob", "task_id=1", "elapsed_time=50")
-        account(device, 4, "bob", "task_id=4", "elapsed_time=2", *RELOAD)
-        account(device, 4, "bob", "task_id=8", "elapsed_time=3")
-        account(device, 10, "zed", "task_id=0", times=495)
-        account(device, 2, "bob", "task_id=3")
-        account(device, 2, "bob", "task_id=8")
-        tallied(server, "user bob", 4, 2, 1, 0, 4, 5, 1)
-        account(device, 4, "bob", "task_id=1", "elapsed_time=5")
-        account(device, 4, "bob", "task_id=5", "elapsed_time=2", *RELOAD)
-        account(device, 10, "zed", "task_id=0", times=496)
-        tallied(server, "user bob", 4, 4, 1, 0, 3, 12, 2)
+        a_thousand_records(server, device)
         # The first 500 go.
         account(device, 10, "eve", "task_id=9")
         tallied(server, "user bob", 2, 2, 0, 0, 2, 7, 1)
