@@ -1,6 +1,5 @@
 """`tacd ask`, which asks servers as a device does: the server of this program, and servers made here
-that answer as RFC 8907 has it, or otherwise. Each case is a function that raises Wrong where
-something goes otherwise."""
+that answer as RFC 8907 has it, or otherwise."""
 
 import contextlib
 import hashlib
@@ -15,9 +14,15 @@ import tempfile
 import threading
 import time
 
-from cases import Case, Check, Outcome, Play, Wrong
-from proxied import header as proxy_header
-from served import LONGEST_WAIT, Server, connect, free_port, require
+from bench.lib.device import received
+from bench.lib.packet import (
+    CLEAR, COMMAND, HEADER_SIZE, LONGEST_BODY, VERSION, Header, header_of, padded,
+)
+from bench.lib.server import free_port
+from lib.cases import LONGEST_WAIT, Wrong, require
+from lib.devices import connect
+from lib.proxies import header as proxy_header
+from lib.servers import Server
 
 KEY = b"wide kelp"
 PASSWORD, ENABLE = b"blue-lake", b"deep lake"
@@ -36,47 +41,9 @@ enable {ENABLE.decode()}
 SHELL = "PASS_ADD priv-lvl=15 'shell:roles*\"network-operator vdc-admin\"'\n"
 BY_TLS = "device one\nat 127.0.0.1\ntls\n"
 AUTHEN, AUTHOR, ACCT = 1, 2, 3
-UNENCRYPTED = 1
 GRANTED, REFUSED, MISTAKEN, UNANSWERED = 0, 1, 2, 4
 # What is over at once, or after a second, is over within these.
 SOON = 8
-
-
-def cases(name):
-    """Each case of this file, with the name of the function that plays it."""
-    for play in (
-        logins,
-        what_a_user_may_do,
-        records_of_all_kinds,
-        another_key,
-        every_address,
-        packets_in_clear,
-        replies_in_clear,
-        the_bytes_of_a_login,
-        the_bytes_of_requests,
-        answers_to_questions,
-        no_two_alike,
-        every_status,
-        all_of_an_answer,
-        nothing_comes_to_a_terminal,
-        no_reply_in_time,
-        a_byte_now_and_then,
-        no_reply_to_what_was_asked,
-        no_tacacs_at_all,
-        too_much,
-        nobody_there,
-        how_long_it_took,
-        the_password_is_nowhere,
-        passwords_as_they_come,
-        too_long_to_be_sent,
-        nowhere_to_print,
-        files_of_keys,
-    ):
-        expected = Outcome(b"", b"", 0)
-        yield Case(f"{name}: {play.__name__}", [Check(Play(play), expected, "it was asked")])
-
-
-# ---- asking
 
 
 class Asker:
@@ -136,45 +103,21 @@ def served(program, *options, **more):
         yield server, Asker(program, server.address[1])
 
 
-# ---- servers made here
-
-
-def padded(head, body, key):
-    """The body with the pad of its header put on, or taken off (RFC 8907, section 4.5)."""
-    pad = digest = b""
-    while len(pad) < len(body):
-        digest = hashlib.md5(head[4:8] + key + head[:1] + head[2:3] + digest).digest()
-        pad += digest
-    return bytes(one ^ other for one, other in zip(body, pad))
-
-
-def received(stream, count):
-    data = b""
-    while len(data) < count:
-        more = stream.recv(count - len(data))
-        if not more:
-            break
-        data += more
-    return data
-
-
 class Packet:
     """One that came, with its body in clear."""
 
     def __init__(self, stream, key=KEY):
-        self.head = received(stream, 12)
-        self.version, self.kind, self.seq, self.flags, self.session, length = struct.unpack(
-            "!BBBBII", self.head
-        )
-        body = received(stream, length)
-        self.body = body if self.flags & UNENCRYPTED else padded(self.head, body, key)
+        self.head = received(stream, HEADER_SIZE)
+        self.header = header_of(self.head)
+        body = received(stream, self.header.length)
+        self.body = body if self.header.flags & CLEAR else padded(self.head, body, key)
 
     def reply(self, body, key=KEY, **other):
         """The packet of a reply to it, otherwise where that is said."""
-        parts = {"version": self.version, "kind": self.kind, "seq": self.seq + 1, "flags": self.flags}
-        parts |= {"session": self.session, "length": len(body), **other}
-        head = struct.pack("!BBBBII", *parts.values())
-        return head + (body if parts["flags"] & UNENCRYPTED else padded(head, body, key))
+        parts = {"number": self.header.number + 1, "length": len(body), **other}
+        header = self.header._replace(**parts)
+        head = header.to_bytes()
+        return head + (body if header.flags & CLEAR else padded(head, body, key))
 
 
 def authen(status, message=b"", data=b"", flags=0):
@@ -249,9 +192,6 @@ def answering(*bodies, **other):
         stream.recv(1)  # So that the client hangs up first.
 
     return act
-
-
-# ---- the server of this program
 
 
 def logins(program):
@@ -354,9 +294,6 @@ def packets_in_clear(program):
         asks.fails("--clear", "shell", "bob", said="it closed the connection without a reply")
 
 
-# ---- servers made here
-
-
 def replies_in_clear(program):
     """Each side has to have a pad, or none."""
     with made(program, answering(AGREED)) as asks:
@@ -364,7 +301,7 @@ def replies_in_clear(program):
     with made(program, answering(AGREED, flags=0)) as asks:
         said = "its reply isn't in clear, though no key was given"
         asks.fails("--clear", "shell", "bob", said=said)
-    with made(program, answering(AGREED, flags=UNENCRYPTED)) as asks:
+    with made(program, answering(AGREED, flags=CLEAR)) as asks:
         asks.fails("shell", "bob", said="its reply is in clear, though a key was given")
 
 
@@ -398,7 +335,7 @@ def the_bytes_of_a_login(program):
         require(one.head[:4] == bytes([0xC0, 1, 1, 0]), f"ASCII: its header is {one.head.hex()}")
         require(one.body == start(level, 1, service), f"ASCII: its body is {one.body}")
         require(two.head[:4] == bytes([0xC0, 1, 3, 0]), f"ASCII: it goes on by {two.head.hex()}")
-        require(two.session == one.session, "ASCII: it goes on in another session")
+        require(two.header.session == one.header.session, "ASCII: it goes on in another session")
         typed = struct.pack("!HHB", len(PASSWORD), 0, 0) + PASSWORD
         require(two.body == typed, f"ASCII: it types {two.body}")
         (one,) = seen(program, ("login", "bob", "--pap", *words), PASS)
@@ -481,13 +418,13 @@ def answers_to_questions(program):
             status = GRANTED if printed == "PASS" else REFUSED
             asks.comes_to("login", "bob", *words, typed=PASSWORD, printed=printed + "\n", status=status)
         require([it.body[5:] for it in came[1:]] == typed, f"{bodies}: typed is {came}")
-        require([it.seq for it in came] == [1, 3, 5][: len(came)], f"{bodies}: its numbers")
+        require([it.header.number for it in came] == [1, 3, 5][: len(came)], f"{bodies}: its numbers")
 
 
 def no_two_alike(program):
     """Sessions and challenges are other ones each time."""
     packets = [seen(program, ("login", "bob", "--chap"), PASS)[0] for _ in range(5)]
-    require(len({it.session for it in packets}) == 5, "two have one session")
+    require(len({it.header.session for it in packets}) == 5, "two have one session")
     require(len({it.body[-32:-16] for it in packets}) == 5, "two have one challenge")
 
 
@@ -553,9 +490,6 @@ def nothing_comes_to_a_terminal(program):
         asks.comes_to("shell", "bob", printed=f"PASS_ADD \\x1b[2J '{quoted}'\n")
 
 
-# ---- no reply
-
-
 def wait(stream):
     """Until the client hangs up."""
     while stream.recv(4096):
@@ -601,41 +535,47 @@ def a_byte_now_and_then(program):
         asks.comes_to("--timeout", "15", "login", "bob", typed=PASSWORD, printed="PASS\n")
 
 
+UNREAD = "its reply can't be read: it may have another key for this client"
+
+
 def no_reply_to_what_was_asked(program):
-    unread = "its reply can't be read: it may have another key for this client"
     for kind, (words, body, _) in ASKED.items():
         for said, other in (
             ("its reply is of another session", {"session": 7}),
-            ("its reply has a wrong sequence number", {"seq": 1}),
-            ("its reply has a wrong sequence number", {"seq": 4}),
-            ("its reply has a wrong sequence number", {"seq": 0}),
+            ("its reply has a wrong sequence number", {"number": 1}),
+            ("its reply has a wrong sequence number", {"number": 4}),
+            ("its reply has a wrong sequence number", {"number": 0}),
             ("its reply is of another type than the request", {"kind": kind % 3 + 1}),
             ("its reply is of another type than the request", {"kind": 0}),
             ("what it answers isn't TACACS+", {"version": 0xB0}),
             ("what it answers isn't TACACS+", {"version": 0xC2}),
             ("its reply is over 131075 bytes long", {"length": 131_076}),
             ("its reply is over 131075 bytes long", {"length": 2**32 - 1}),
-            (unread, {"key": b"taiga"}),
+            (UNREAD, {"key": b"taiga"}),
         ):
             with made(program, answering(body, **other)) as asks:
                 asks.fails(*words, typed=PASSWORD, said=said)
         # A body with a byte less, or one more, is none.
         for body in b"", body[:1], body[:-1], body + b"\0":
             with made(program, answering(body)) as asks:
-                asks.fails(*words, typed=PASSWORD, said=unread)
-    # The second reply of a session is judged as the first.
+                asks.fails(*words, typed=PASSWORD, said=UNREAD)
     for said, other in (
         ("its reply is of another session", {"session": 7}),
-        ("its reply has a wrong sequence number", {"seq": 2}),
+        ("its reply has a wrong sequence number", {"number": 2}),
     ):
+        fails_by_its_second_reply(program, said, **other)
 
-        def act(stream):
-            stream.sendall(Packet(stream).reply(authen(5)))
-            stream.sendall(Packet(stream).reply(PASS, **other))
-            wait(stream)
 
-        with made(program, act) as asks:
-            asks.fails("login", "bob", typed=PASSWORD, said=said)
+def fails_by_its_second_reply(program, said, **other):
+    """It is judged as the first."""
+
+    def act(stream):
+        stream.sendall(Packet(stream).reply(authen(5)))
+        stream.sendall(Packet(stream).reply(PASS, **other))
+        wait(stream)
+
+    with made(program, act) as asks:
+        asks.fails("login", "bob", typed=PASSWORD, said=said)
 
 
 def no_tacacs_at_all(program):
@@ -652,25 +592,15 @@ def no_tacacs_at_all(program):
 
         with made(program, act) as asks:
             asks.fails("shell", "bob", said="what it answers isn't TACACS+")
-
-    def closes(count):
-        def act(stream):
-            stream.sendall(Packet(stream).reply(AGREED)[:count])
-
-        return act
-
     for count, said in (
         (0, "it closed the connection without a reply"),
         (1, "it closed the connection within a reply"),
         (12, "it closed the connection within a reply"),
         (17, "it closed the connection within a reply"),
     ):
-        with made(program, closes(count)) as asks:
+        cut = lambda stream: stream.sendall(Packet(stream).reply(AGREED)[:count])
+        with made(program, cut) as asks:
             asks.fails("shell", "bob", said=said)
-
-    def resets(stream):
-        stream.setsockopt(socket.SOL_SOCKET, socket.SO_LINGER, struct.pack("ii", 1, 0))
-
     with made(program, resets) as asks:
         printed, said, status = asks("shell", "bob")
         require((printed, status) == ("", UNANSWERED), f"a reset: {printed!r}, {status}")
@@ -682,12 +612,16 @@ def no_tacacs_at_all(program):
         require(said in [f"tacd: {asks.to}: {it}\n" for it in told], f"a reset: {said!r}")
 
 
+def resets(stream):
+    stream.setsockopt(socket.SOL_SOCKET, socket.SO_LINGER, struct.pack("ii", 1, 0))
+
+
 def too_much(program):
     """A gigabyte, of which no more is taken than the longest packet and what the system keeps."""
     for head in (
         bytes([0xC0, 2, 2, 0]) + bytes(8),
-        struct.pack("!BBBBII", 0xC0, 2, 2, 0, 1, 131_075),
-        struct.pack("!BBBBII", 0xC0, 2, 2, 0, 1, 2**30),
+        Header(VERSION, COMMAND, 2, 0, 1, LONGEST_BODY).to_bytes(),
+        Header(VERSION, COMMAND, 2, 0, 1, 2**30).to_bytes(),
         b"",
     ):
         sent = 0
@@ -731,9 +665,6 @@ def how_long_it_took(program):
         require((said, status) == ("", REFUSED), f"{said!r}, {status}")
         told = re.fullmatch(r"FAIL no\ntook ([0-9]+)\.[0-9]{3} ms\n", printed)
         require(told and 300 <= int(told[1]) < 1000 * SOON, f"it prints {printed!r}")
-
-
-# ---- passwords and keys
 
 
 def the_password_is_nowhere(program):

@@ -1,85 +1,42 @@
 """Servers with a devices' file, and devices that call them: their names, their old keys, how many
-connections they have, the file that is read again; and replies to failed logins, which are held
-back. Each case is a function, as in served.py."""
+connections they have, the file that is read again; and replies to failed logins, which are held back."""
 
 import contextlib
-import json
 import os
 import pathlib
 import resource
 import threading
 import time
 
-from cases import Case, Check, Outcome, Play
-from operated import comes_to
-from served import (
+from lib.cases import SOON, comes_to, require
+from lib.consoles import typed
+from lib.devices import (
     ASK,
     BAD_BODY,
     CLOSING,
+    FAILED,
     KEPT,
     LOGIN,
     NAME_WANTED,
+    PASSED,
     PERMITTED,
     RECORD,
-    SOON,
+    RIGHT,
     STORED,
-    Server,
+    WRONG,
     answer,
     connect,
     is_answered,
     is_closed,
     is_permitted,
     packet,
-    require,
-    typed,
 )
+from lib.listed import BOTH_KEYS, NEW, OLD, ONE, OTHERS, THIRD, asks, put_devices, serving
+from lib.servers import LOGIN_POLICY, Server, device_events
 
-NEW, OLD, THIRD = b"fjord-and-fell-2026-11", b"tundra and taiga", b"wide-kelp-forest-0092"
-ONE = f"device one\nat 127.0.0.1\nkey {NEW.decode()}\n"
-BOTH_KEYS = f"{ONE}old-key {OLD.decode()}\n"
-OTHERS = f"device others\nat 127.0.0.0/30\nkey {THIRD.decode()}\n"
 STRANGER = "127.0.0.9"
 UNKNOWN = f"tacd: {STRANGER}: unknown device, its connection is closed\n"
 MISFIT = "tacd: 127.0.0.1: device one, its packets don't fit the key\n"
-POLICY = "group ops\npermit show .*\nuser bob in ops\nlogin blue-lake\n"
-
-# A login by PAP, as bob.
-RIGHT = "c10101{flag}.0000000{id}.00000014.0101020103000009'bobblue-lake'"
-WRONG = "c10101{flag}.0000000{id}.00000013.0101020103000008'bobred-lake'"
-PASSED = "c10102{flag}.0000000{id}.00000006.010000000000"
-FAILED = "c10102{flag}.0000000{id}.0000001b.020000150000'Authentication failed'"
-
-
-def cases(name):
-    """Each case of this file, with the name of the function that plays it."""
-    for play in (
-        devices_are_named,
-        an_old_key_is_taken,
-        packets_that_fit_no_key,
-        one_key_that_packets_dont_fit,
-        a_flood_of_misfits,
-        a_doubtful_key_counts_as_it_stands,
-        a_first_packet_in_pieces,
-        a_first_packet_that_never_comes,
-        so_many_connections_of_an_address,
-        refused_connections_are_logged,
-        a_stranger_beside_a_thousand,
-        devices_are_read_again,
-        a_device_is_taken_out_in_its_first_packet,
-        a_devices_file_that_is_refused,
-        a_devices_file_of_many_faults,
-        no_devices,
-        failed_logins_are_held_back,
-        failed_logins_are_answered_at_once,
-    ):
-        expected = Outcome(b"", b"", 0)
-        yield Case(f"{name}: {play.__name__}", [Check(Play(play), expected, "its devices called")])
-
-
-def serving(program, devices, *options, **more):
-    """A server of these devices, with a log, and a console at a socket."""
-    more = {"key": ("--devices", "devices"), "policy": POLICY, "devices": devices, **more}
-    return Server(program, "--console", "console", "--log", "log", *options, **more)
 
 
 def ends(program, server, complained=""):
@@ -89,18 +46,6 @@ def ends(program, server, complained=""):
     told += pathlib.Path(server.folder.name, "log").read_text("utf-8")
     for key in (NEW, OLD, THIRD):
         require(key.decode() not in told, f"a key is told: {told}")
-
-
-def events(server):
-    """The lines of the log that a device made."""
-    lines = pathlib.Path(server.folder.name, "log").read_text("utf-8").splitlines()
-    return [event for event in map(json.loads, lines) if "device" in event]
-
-
-def asks(server, source, key, sent=ASK, wanted=PERMITTED):
-    """Whether a device at this address is answered so under this key, on a connection of its own."""
-    with connect(server, source) as device:
-        return is_answered(device, sent, wanted, key=key, flag=CLOSING)
 
 
 def devices_are_named(program):
@@ -113,7 +58,7 @@ def devices_are_named(program):
             refusal = packet(BAD_BODY, NEW)
             came = answer(device, packet(ASK, THIRD, flag=CLOSING), len(refusal))
             require(came == refusal, f"another key is answered by {came}")
-        told = [(list(event)[1:4], event["name"], event["type"]) for event in events(server)]
+        told = [(list(event)[1:4], event["name"], event["type"]) for event in device_events(server)]
         head = ["device", "name", "session"]
         wanted = [(head, "one", "command"), (head, "others", "account"), (head, "one", "refused")]
         require(told == wanted, f"the log has {told}")
@@ -121,7 +66,7 @@ def devices_are_named(program):
     with Server(program, "--log", "log") as server:
         require(is_permitted(server), "bob isn't permitted")
         server.quits()
-        told = [list(event)[1:3] for event in events(server)]
+        told = [list(event)[1:3] for event in device_events(server)]
         require(told == [["device", "session"]], f"the log has {told}")
 
 
@@ -138,10 +83,10 @@ def an_old_key_is_taken(program):
                 refusal = packet(BAD_BODY, NEW)
                 came = answer(device, packet(ASK, THIRD, flag=CLOSING), len(refusal))
                 require(came == refusal, f"{options}: a third key is answered by {came}")
-            told = [event.get("key") for event in events(server) if event["type"] != "login"]
+            told = [event.get("key") for event in device_events(server) if event["type"] != "login"]
             wanted = ["old", "old", None, None, "old", "old", None]
             require(told == wanted, f"{options}: the log has {told}")
-            heads = {tuple(event)[1:4] for event in events(server) if "key" in event}
+            heads = {tuple(event)[1:4] for event in device_events(server) if "key" in event}
             require(heads == {("device", "name", "key")}, f"{options}: the log has {heads}")
             ends(program, server, MISFIT)
 
@@ -186,7 +131,7 @@ def packets_that_fit_no_key(program):
         ):
             require(is_refused_under(server, source, key, own), f"{source}: {key} isn't refused")
         require(misfits(program, server) == 5, "they aren't counted")
-        told = [event for event in events(server) if event["type"] == "refused"]
+        told = [event for event in device_events(server) if event["type"] == "refused"]
         whys = [(event["name"], event["why"]) for event in told]
         one, others = ("one", "bad body"), ("others", "bad body")
         wanted = [others, ("others", "bad header"), one, one, others, one, others]
@@ -198,7 +143,7 @@ def one_key_that_packets_dont_fit(program):
     """Without a devices' file the address alone is told. An address that came as IPv6 is told as it
     is looked up."""
     for options in ((), ("--address", "::")):
-        with Server(program, "--console", "console", *options, policy=POLICY) as server:
+        with Server(program, "--console", "console", *options, policy=LOGIN_POLICY) as server:
             require(is_permitted(server), "bob isn't permitted")
             for _ in range(2):
                 with connect(server, "127.0.0.1") as device:
@@ -243,7 +188,7 @@ def a_doubtful_key_counts_as_it_stands(program):
             ("--devices", new, "line 3: "),
             ("--devices", old, "line 4: "),
         ):
-            words = {"key": (option, "devices"), "devices": text, "policy": POLICY}
+            words = {"key": (option, "devices"), "devices": text, "policy": LOGIN_POLICY}
             with Server(program, "--console", "console", **words) as server:
                 with connect(server, "127.0.0.1") as device:
                     sent = {"key": key.encode(), "flag": CLOSING}
@@ -271,7 +216,7 @@ def a_first_packet_in_pieces(program):
         with connect(server, "127.0.0.1") as device:
             device.sendall(bytes.fromhex("d0010100fedcba9800000000"))
             require(is_closed(device, SOON), "a bad header is taken")
-        told = [event.get("why", event["type"]) for event in events(server)]
+        told = [event.get("why", event["type"]) for event in device_events(server)]
         require(told == ["command", "command", "command", "bad header"], f"the log has {told}")
         ends(program, server)
 
@@ -312,7 +257,7 @@ def so_many_connections_of_an_address(program):
             until = time.monotonic() + SOON
             while not asks(server, source, key):
                 require(time.monotonic() < until, f"{source} isn't answered any more")
-        told = [event for event in events(server) if "count" in event]
+        told = [event for event in device_events(server) if "count" in event]
         require(told[0]["name"] == "others", f"the log has {told}")
         require(told[0]["why"] == "too many connections", f"the log has {told}")
         ends(program, server)
@@ -326,7 +271,7 @@ def refused_connections_are_logged(program):
             with connect(server, STRANGER) as stranger:
                 require(is_closed(stranger, SOON), "a stranger is served")
         took = time.monotonic() - began
-        told = events(server)
+        told = device_events(server)
         keys = ["time", "device", "type", "why", "count"]
         require([list(event) for event in told] == [keys] * len(told), f"the log has {told}")
         require(1 <= len(told) <= 1.1 + took, f"in {took} seconds the log has {told}")
@@ -335,8 +280,8 @@ def refused_connections_are_logged(program):
         time.sleep(1.1)
         connect(server, STRANGER).close()
         until = time.monotonic() + SOON
-        while sum(event["count"] for event in events(server)) < 31:
-            require(time.monotonic() < until, f"the log has {events(server)}")
+        while sum(event["count"] for event in device_events(server)) < 31:
+            require(time.monotonic() < until, f"the log has {device_events(server)}")
         require(asks(server, "127.0.0.1", NEW), "a device isn't answered")
         ends(program, server, UNKNOWN)
 
@@ -359,10 +304,6 @@ def a_stranger_beside_a_thousand(program):
         ends(program, server, UNKNOWN)
 
 
-def replace(server, devices):
-    pathlib.Path(server.folder.name, "devices").write_text(devices)
-
-
 def devices_are_read_again(program):
     """From the next connection on. One that is open goes on under the key that it began with."""
     with serving(program, BOTH_KEYS + OTHERS) as server:
@@ -371,7 +312,7 @@ def devices_are_read_again(program):
             for device, key in ((under_old, OLD), (other, THIRD)):
                 asked = is_answered(device, ASK, PERMITTED, key=key, flag=KEPT)
                 require(asked, f"it isn't answered under {key} before")
-            replace(server, f"{ONE}device nine\nat {STRANGER}\nkey {OLD.decode()}\n")
+            put_devices(server, f"{ONE}device nine\nat {STRANGER}\nkey {OLD.decode()}\n")
             told = typed(program, server, "reload devices")
             require(told == "devices ok: 2 devices, 2 prefixes\n", f"it tells {told}")
             for device, key in ((under_old, OLD), (other, THIRD)):
@@ -394,7 +335,7 @@ def a_device_is_taken_out_in_its_first_packet(program):
             sent = packet(ASK, OLD, flag=KEPT)
             device.sendall(sent[:20])
             time.sleep(0.1)
-            replace(server, OTHERS.replace("127.0.0.0/30", "127.0.0.8/30"))
+            put_devices(server, OTHERS.replace("127.0.0.0/30", "127.0.0.8/30"))
             told = typed(program, server, "reload devices")
             require(told == "devices ok: 1 devices, 1 prefixes\n", f"it tells {told}")
             device.sendall(sent[20:])
@@ -414,7 +355,7 @@ def a_devices_file_that_is_refused(program):
             (f"{ONE}key {THIRD.decode()}\n", "devices fault line 4 6 Repeated\n"),
             ("device one\n", "devices fault line 1 8 NoKey\n"),
         ):
-            replace(server, text)
+            put_devices(server, text)
             told = typed(program, server, "reload devices", status=1)
             require(told == wanted, f"it tells {told}")
             require(asks(server, "127.0.0.1", NEW), "the device isn't answered")
@@ -442,7 +383,7 @@ def a_devices_file_of_many_faults(program):
     with serving(program, ONE) as server:
         comes_to(lambda: os.path.exists(f"{server.folder.name}/console"), True)
         for count, more in ((8, ""), (9, "tacd: 'tacd devices --lint devices' says more\n")):
-            replace(server, ONE + f"secret {THIRD.decode()}\n" * count)
+            put_devices(server, ONE + f"secret {THIRD.decode()}\n" * count)
             told = typed(program, server, "reload devices", status=1)
             require(told == "devices fault line 4 1 BadLine\n", f"it tells {told}")
             require(asks(server, "127.0.0.1", NEW), "the device isn't answered")
@@ -453,7 +394,7 @@ def a_devices_file_of_many_faults(program):
 
 def no_devices(program):
     """A server of one key has none to be read again, in a batch as well, which stays open."""
-    with Server(program, policy=POLICY) as server:
+    with Server(program, policy=LOGIN_POLICY) as server:
         lines = "reload devices\nbegin\ninsert group ops 1 deny ping\nreload devices\ncommit\nquit\n"
         server.ends(lines, "no devices\nok\nkept 1\nno devices\nok\n")
 
@@ -470,7 +411,7 @@ def failed_logins_are_held_back(program):
     and right logins. A connection isn't given up meanwhile, and the server ends at once. A worker
     counts from when it woke, which is up to a turn before the packet came."""
     options = ("--workers", "1", "--fail-delay", "1000", "--idle", "1", "--per-address", "0")
-    with Server(program, *options, policy=POLICY) as server:
+    with Server(program, *options, policy=LOGIN_POLICY) as server:
         with connect(server) as device:
             took = seconds(device, RIGHT, PASSED, flag=KEPT, id=1)
             require(took < 0.9, f"a right login takes {took}")
@@ -478,24 +419,8 @@ def failed_logins_are_held_back(program):
             require(0.9 <= took < 2, f"a wrong login takes {took}")
             took = seconds(device, RIGHT, PASSED, flag=KEPT, id=3)
             require(took < 0.9, f"a right login after it takes {took}")
-        with contextlib.ExitStack() as stack:
-            guesses = b"".join(packet(WRONG, flag=KEPT, id=number) for number in (1, 2, 3))
-            wanted = b"".join(packet(FAILED, flag=KEPT, id=number) for number in (1, 2, 3))
-            for _ in range(50):
-                stack.enter_context(connect(server)).sendall(packet(WRONG, flag=KEPT, id=1))
-            guesser = stack.enter_context(connect(server))
-            came = []
-            thread = threading.Thread(target=lambda: came.append(answer(guesser, guesses, len(wanted))))
-            began = time.monotonic()
-            thread.start()
-            for _ in range(5):
-                with connect(server) as device:
-                    took = seconds(device, RIGHT, PASSED, flag=CLOSING, id=1)
-                    require(took < 0.9, f"beside guessers a right login takes {took}")
-            thread.join()
-            took = time.monotonic() - began
-            require(came == [wanted] and 2.9 <= took < 5, f"in {took} seconds came {came}")
-    with Server(program, "--fail-delay", "3000", policy=POLICY) as server, connect(server) as device:
+        guessers_hold_up_nobody(server)
+    with Server(program, "--fail-delay", "3000", policy=LOGIN_POLICY) as server, connect(server) as device:
         device.sendall(packet(WRONG, flag=KEPT, id=1))
         time.sleep(0.1)
         began = time.monotonic()
@@ -503,9 +428,30 @@ def failed_logins_are_held_back(program):
         require(time.monotonic() - began < 2.5, "the end waits for a reply")
 
 
+def guessers_hold_up_nobody(server):
+    """Of these one guesses three times, and others once."""
+    with contextlib.ExitStack() as stack:
+        guesses = b"".join(packet(WRONG, flag=KEPT, id=number) for number in (1, 2, 3))
+        wanted = b"".join(packet(FAILED, flag=KEPT, id=number) for number in (1, 2, 3))
+        for _ in range(50):
+            stack.enter_context(connect(server)).sendall(packet(WRONG, flag=KEPT, id=1))
+        guesser = stack.enter_context(connect(server))
+        came = []
+        thread = threading.Thread(target=lambda: came.append(answer(guesser, guesses, len(wanted))))
+        began = time.monotonic()
+        thread.start()
+        for _ in range(5):
+            with connect(server) as device:
+                took = seconds(device, RIGHT, PASSED, flag=CLOSING, id=1)
+                require(took < 0.9, f"beside guessers a right login takes {took}")
+        thread.join()
+        took = time.monotonic() - began
+        require(came == [wanted] and 2.9 <= took < 5, f"in {took} seconds came {came}")
+
+
 def failed_logins_are_answered_at_once(program):
     """Unless the option says otherwise."""
-    with Server(program, policy=POLICY) as server:
+    with Server(program, policy=LOGIN_POLICY) as server:
         with connect(server) as device:
             took = seconds(device, WRONG, FAILED, flag=CLOSING, id=1)
             require(took < 0.9, f"a wrong login takes {took}")

@@ -1,5 +1,5 @@
-"""`tacd serve --check`: what it says of each fault is what a start says, it makes and changes nothing, and
-a server that has the same port goes on meanwhile. Each case is a function, as in served.py."""
+"""`tacd serve --check`: what it says of each fault is what a start says, it makes and changes nothing,
+and a server that has the same port goes on meanwhile."""
 
 import contextlib
 import errno
@@ -11,25 +11,12 @@ import subprocess
 import tempfile
 import threading
 
-from cases import Case, Check, Outcome, Play
-from judged import BIND, CHMOD, FSYNC, LISTEN, MKDIR, OPENAT, RENAME, RMDIR, UNLINK, Judged
-from operated import Operator, attended, stops
-from served import (
-    ASK,
-    BLANK,
-    DEVICES,
-    KEPT,
-    KEY,
-    KEY_OF_ONE,
-    LONGEST_WAIT,
-    PERMITTED,
-    POLICY,
-    connect,
-    free_port,
-    is_answered,
-    limit_files,
-    require,
-)
+from bench.lib.server import free_port
+from lib.cases import LONGEST_WAIT, require
+from lib.consoles import Operator, attended, stops
+from lib.devices import ASK, KEPT, PERMITTED, connect, is_answered
+from lib.judged import BIND, CHMOD, FSYNC, LISTEN, MKDIR, OPENAT, RENAME, RMDIR, UNLINK, Judged
+from lib.servers import BLANK, DEVICES, KEY, KEY_OF_ONE, POLICY, limit_files
 
 SOCKET, CONNECT = 41, 42
 # Whom no file of root's is open to.
@@ -38,25 +25,6 @@ UNPRIVILEGED = pathlib.Path("/proc/sys/net/ipv4/ip_unprivileged_port_start")
 # All that a start may need.
 KEEPING = ("--log", "log", "--keep-edits", "kept")
 ALL = ("--console", "console", "--proxy", "proxy", "--devices", "devices", *KEEPING)
-
-
-def cases(name):
-    """Each case of this file, with the name of the function that plays it."""
-    for play in (
-        faults_of_the_command_line,
-        faults_of_files,
-        faults_of_kept_edits,
-        faults_of_logs,
-        faults_of_sockets,
-        faults_of_ports,
-        without_rights,
-        what_is_remarked,
-        nothing_is_made,
-        beside_a_server,
-        an_output_that_fails,
-    ):
-        expected = Outcome(b"", b"", 0)
-        yield Case(f"{name}: {play.__name__}", [Check(Play(play), expected, "starts were checked")])
 
 
 class Folder:
@@ -308,43 +276,48 @@ def what_is_remarked(program):
         approves(program, folder, words, remarks, before=lambda: limit_files(1000))
 
 
+class Making(Judged):
+    """A process of which the calls are noted that make or change something, or call somebody."""
+
+    def __init__(self):
+        numbers = (OPENAT, SOCKET, BIND, CONNECT, LISTEN, RENAME, MKDIR, RMDIR, UNLINK, CHMOD, FSYNC)
+        super().__init__(self.note, *numbers)
+        self.made = []
+
+    def note(self, call):
+        if call.number == OPENAT:
+            if call.arguments[2] & (os.O_CREAT | os.O_TRUNC | os.O_WRONLY | os.O_RDWR):
+                self.made.append(("open", call.text(1), call.arguments[2]))
+        elif call.number == SOCKET:
+            if call.arguments[1] & 0xF != socket.SOCK_DGRAM:
+                self.made.append(("socket", call.arguments))
+        elif call.number == BIND:
+            self.made.append(("bind",))
+        else:
+            self.made.append(call)
+
+
 def nothing_is_made(program):
     """Of all calls of the system that make or change something there is none, and nobody is called. The
     one socket is of UDP, and nobody hears there."""
-    calls = []
-
-    def judge(call):
-        if call.number == OPENAT:
-            if call.arguments[2] & (os.O_CREAT | os.O_TRUNC | os.O_WRONLY | os.O_RDWR):
-                calls.append(("open", call.text(1), call.arguments[2]))
-        elif call.number == SOCKET:
-            if call.arguments[1] & 0xF != socket.SOCK_DGRAM:
-                calls.append(("socket", call.arguments))
-        elif call.number == BIND:
-            calls.append(("bind",))
-        else:
-            calls.append(call)
-
-    numbers = (OPENAT, SOCKET, BIND, CONNECT, LISTEN, RENAME, MKDIR, RMDIR, UNLINK, CHMOD, FSYNC)
     with Folder(kept=POLICY) as folder:
         os.mkfifo(f"{folder.name}/fifo", 0o600)
         for options in (ALL, ["--key-file", "key", "--no-console", "--log", "fifo"]):
-            calls.clear()
-            judged = Judged(judge, *numbers)
+            making = Making()
             process = subprocess.Popen(
                 ["tacd", "serve", "--check", "--port", str(free_port()), *options, "policy"],
                 executable=program,
                 cwd=folder.name,
-                preexec_fn=judged.begin,
+                preexec_fn=making.begin,
                 stdin=subprocess.DEVNULL,
                 stdout=subprocess.PIPE,
                 stderr=subprocess.PIPE,
             )
             was = folder.all()
-            with judged:
+            with making:
                 printed, said = process.communicate(timeout=LONGEST_WAIT)
             require((printed, process.returncode) == (b"ok\n", 0), f"it ends by {printed} {said}")
-            require(calls == [("bind",)], f"it makes these calls: {calls}")
+            require(making.made == [("bind",)], f"it makes these calls: {making.made}")
             require(folder.all() == was, "it makes or changes something")
 
 
@@ -352,7 +325,6 @@ def beside_a_server(program):
     """One that has the port, the sockets, the log and the lock of the edits goes on, and isn't called."""
     options = {"key": ("--devices", "devices"), "proxy": "proxy"}
     with attended(program, *KEEPING, **options) as server:
-        require(server.process.stdout.readline() == b"listening proxy\n", "it doesn't listen to proxies")
         words = ["--port", str(server.address[1]), *ALL, "policy"]
         with connect(server, "127.0.0.1") as device, Operator(server) as operator:
             asked = {"key": KEY_OF_ONE, "flag": KEPT}

@@ -1,36 +1,17 @@
 """`tacd console`, as operators and scripts use it: how a session ends, what of a file is passed over, and
-what is said where a line is none of a console; and what else of the program takes no server. Each case is
-a function, as in served.py."""
+what is said where a line is none of a console; and what else of the program takes no server."""
 
 import os
 import pty
 import re
 import subprocess
 
-from cases import Case, Check, Outcome, Play
-from operated import Operator, asks_all, attended, starts, stops, told
-from served import LONGEST_WAIT, Server, require, types
+from lib.cases import LONGEST_WAIT, require
+from lib.consoles import Operator, asks_all, attended, stops, told, types
+from lib.servers import Server, starts
 
 HELP = "tacd: type help\n"
 BAD = "refused 1 BadEdit\n"
-
-
-def cases(name):
-    """Each case of this file, with the name of the function that plays it."""
-    for play in (
-        how_a_session_ends,
-        a_session_that_ends_with_a_batch,
-        what_of_a_file_is_passed_over,
-        lines_that_end_in_a_return,
-        standard_input_of_a_server_stays,
-        the_nearest_word,
-        other_refusals_name_no_word,
-        at_a_terminal,
-        the_version,
-        a_standard_input_that_fails,
-    ):
-        expected = Outcome(b"", b"", 0)
-        yield Case(f"{name}: {play.__name__}", [Check(Play(play), expected, "its client was used")])
 
 
 def types_words(program, server, *words):

@@ -1,7 +1,6 @@
-"""What a server counts and tells: by `status`, on standard error and in its log. Each number of `status`
-is looked at before and after each event, and each that isn't of this event has to stay as it was.
-Clocks and failures are those of judged.py, so nobody waits for them. Each case is a function, as in
-served.py."""
+"""What a server counts and tells: by `status`, on standard error and in its log. Each number of
+`status` is looked at before and after each event, and each that isn't of this event has to stay as it
+was. Clocks and failures are those of lib/judged.py, so nobody waits for them."""
 
 import contextlib
 import errno
@@ -18,9 +17,27 @@ import tempfile
 import threading
 import time
 
-from cases import Case, Check, Outcome, Play, Wrong
-from crowded import LOGINS, is_told
-from judged import (
+from bench.lib.metrics import fault_of
+from lib.cases import LONGEST_WAIT, Wrong, comes_to, require
+from lib.consoles import Operator, stops, told
+from lib.counting import BROKEN, FAILS, FULL, Told, counting, is_of_log, named
+from lib.devices import (
+    ASK,
+    CLOSING,
+    KEPT,
+    PERMITTED,
+    RECORD,
+    STORED,
+    answer,
+    connect,
+    exchanged,
+    is_answered,
+    is_closed,
+    is_permitted,
+    is_told,
+    packet,
+)
+from lib.judged import (
     CLOCK_NANOSLEEP,
     CLONE3,
     EPOLL_CREATE1,
@@ -31,29 +48,10 @@ from judged import (
     Clock,
     Judged,
 )
-from operated import Operator, replace, starts, stops, told
-from proxied import called, header, line
-from served import (
-    ASK,
-    CLOSING,
-    KEPT,
-    KEY,
-    LONGEST_WAIT,
-    PERMITTED,
-    RECORD,
-    STORED,
-    Server,
-    answer,
-    connect,
-    is_answered,
-    is_closed,
-    is_permitted,
-    packet,
-    ready,
-    require,
-)
+from lib.logins import LOGINS
+from lib.proxies import called, header, line
+from lib.servers import KEY, LOGIN_POLICY, Server, device_events, ready, replace, starts
 
-POLICY = "group ops\npermit show .*\nuser bob in ops\nlogin blue-lake\n"
 OTHER_KEY, NEW_KEY, OLD_KEY = b"tundra and taiga", b"wintry-tundra-ridge-41", b"wide-kelp-forest-0092"
 # One with a key, one with an old key too, one that comes by a proxy alone, with its own certificate, and
 # one that does so with any.
@@ -73,8 +71,6 @@ device any
 at 192.0.2.2
 tls
 """
-# These change by themselves.
-APART = ("tacd_uptime_seconds", "tacd_memory_bytes")
 ENDED = (
     "finished unlisted protocol idle login_idle not_taken packet_memory read write log hashing memory "
     "server"
@@ -86,131 +82,8 @@ REFUSED_BY_PROXIES = (
 )
 ANSWERED = "login PASS,login FAIL,login ERROR,command PASS_ADD,command FAIL,account SUCCESS,account ERROR"
 PACKETS = "bad_body bad_header unserved_type unanswered"
-# What is counted of a device that is permitted something and then closed, by served.py.
+# What is counted of a device that is permitted something and then closed.
 PERMITS = "accepted +1, command PASS_ADD +1, ended protocol +1"
-
-
-def cases(name):
-    """Each case of this file, with the name of the function that plays it."""
-    for play in (
-        all_lines_in_their_order,
-        requests,
-        packets_that_are_refused,
-        devices_that_are_given_up,
-        replies_that_are_not_taken,
-        connections_that_are_reset,
-        what_the_system_refuses,
-        packets_without_room,
-        logins_without_room,
-        connections_that_are_refused,
-        reasons_of_proxies,
-        connections_that_are_too_many,
-        as_many_as_were_to_be_served,
-        where_calls_go,
-        edits_and_devices,
-        devices_that_come_back,
-        taken_out_in_its_first_packet,
-        edits_that_were_kept,
-        for_how_long_it_serves,
-        lines_of_refused_connections,
-        devices_with_another_key,
-        times_of_lines,
-        a_log_that_takes_no_lines,
-        a_log_that_is_renamed,
-        a_line_that_has_no_end,
-        a_line_of_any_length,
-        lines_that_may_be_lost,
-        lines_that_are_on_the_disk,
-        a_fault_after_an_append,
-        a_start_that_fails,
-        workers_that_never_begin,
-        no_socket_of_a_console,
-        who_may_read_secrets,
-    ):
-        expected = Outcome(b"", b"", 0)
-        yield Case(f"{name}: {play.__name__}", [Check(Play(play), expected, "it was counted")])
-
-
-def named(name):
-    """The whole name of a line: `ended idle`, `refused at_once`, `packet bad_body`, `login PASS`."""
-    what, _, rest = name.partition(" ")
-    if not rest:
-        totals = {"accepted": "connections_accepted_total", "other_key": "connections_other_key_total"}
-        return "tacd_" + totals.get(what, f"{what}_total" if what in ("edits", "reloads") else what)
-    if what in ("ended", "refused"):
-        return f'tacd_connections_{what}_total{{why="{rest}"}}'
-    if what == "packet":
-        return f'tacd_requests_refused_total{{why="{rest}"}}'
-    return f'tacd_requests_total{{type="{what}",status="{rest}"}}'
-
-
-class Told:
-    """What `status` tells an operator, and what it has to tell."""
-
-    def __init__(self, operator):
-        self.operator = operator
-        self.wanted = self.came()
-
-    def came(self):
-        numbers = self.operator.numbers()
-        return {name: int(it) for name, it in numbers.items() if name not in APART}
-
-    def after(self, what, changes=""):
-        """These numbers, each with what comes to it, and no others have changed by an event."""
-        for change in filter(None, changes.split(", ")):
-            name, _, more = change.rpartition(" ")
-            self.wanted[named(name)] += int(more)
-        until = time.monotonic() + LONGEST_WAIT
-        while (came := self.came()) != self.wanted:
-            if time.monotonic() > until:
-                off = {name: (it, came.get(name)) for name, it in self.wanted.items() if it != came.get(name)}
-                raise Wrong(f"after {what} these are wanted, and come: {off}")
-            time.sleep(0.01)
-
-
-def comes_to(wanted, what):
-    until = time.monotonic() + LONGEST_WAIT
-    while (came := what()) != wanted:
-        require(time.monotonic() < until, f"it comes to {came}, not {wanted}")
-        time.sleep(0.005)
-
-
-@contextlib.contextmanager
-def counting(program, *options, judged=None, workers="1", **more):
-    """A server of these workers, its operator, and what he is told."""
-    judged = judged or Judged(clock=Clock())
-    more = {"policy": POLICY, **more}
-    words = ["--console", "console", "--workers", workers, *options]
-    words += () if "--per-address" in options else ("--per-address", "0")
-    with Server(program, *words, before=judged.begin, **more) as server, judged:
-        starts(server)
-        with Operator(server) as operator:
-            yield server, operator, Told(operator)
-
-
-def exchanged(device, sent, key=KEY):
-    """Whether a packet of a connection that is kept is answered, by whatever."""
-    head = answer(device, packet(sent, key), 12)
-    if len(head) < 12:
-        return False
-    length = int.from_bytes(head[8:], "big")
-    return len(answer(device, b"", length)) == length
-
-
-def reads_as_metrics(text):
-    """Prometheus takes the text: before the numbers of a name stand what they are and of which kind."""
-    name = kind = None
-    for text_line in text.splitlines():
-        if help_of := re.fullmatch("# HELP ([a-z_]+) [A-Z1].+[.]", text_line):
-            before, name, kind = name, help_of[1], None
-            require(name != before, f"{name} is told twice")
-        elif kind_of := re.fullmatch("# TYPE ([a-z_]+) (counter|gauge)", text_line):
-            kind = kind_of[2]
-            require(kind_of[1] == name, f"{text_line!r} is below {name}")
-            require((kind == "counter") == name.endswith("_total"), f"{name} is no {kind}")
-        else:
-            number = re.fullmatch('([a-z_]+)({[a-z]+="[^"]+"(,[a-z]+="[^"]+")?})? [0-9]+', text_line)
-            require(number and number[1] == name and kind, f"{text_line!r} is below {name}, a {kind}")
 
 
 def all_lines_in_their_order(program):
@@ -243,7 +116,8 @@ def all_lines_in_their_order(program):
         values |= {"info": 1, "workers": 1, "subjects": 2, "rules": 1, "operators": 1}
         values["devices"] = 4 if listed else 0
         with counting(program, *options, **listed) as (_, operator, status):
-            reads_as_metrics(operator.ask("status"))
+            fault = fault_of(operator.ask("status") + "\n")
+            require(not fault, f"Prometheus doesn't take it: {fault}")
             came = [(re.sub("{version=.*}", "", name), it) for name, it in status.wanted.items()]
             wanted = [(named(name), values.get(name, 0)) for name in names]
             require(came == wanted, f"with {options} it tells {came}, not {wanted}")
@@ -285,8 +159,6 @@ def requests(program):
             require(is_permitted(server), "bob isn't permitted")
             status.after("one session", PERMITS)
             stops(server, operator)
-
-
 
 
 # What is refused on a connection of its own, under which key, and what is counted.
@@ -373,7 +245,7 @@ def replies_that_are_not_taken(program):
     with counting(program, "--idle", "60", judged=judged) as (server, operator, status):
         with open_device(server, status, REQUESTS[6][0], changes="command PASS_ADD +1") as device:
             device.sendall(packet(ASK, flag=KEPT))
-            comes_to(True, lambda: bool(untaken))
+            comes_to(lambda: bool(untaken), True)
             status.after("a question", "command PASS_ADD +1")
             require(is_permitted(server), "another has to wait")
             status.after("another", PERMITS)
@@ -400,7 +272,7 @@ def resets(server, device):
     port = f":{device.getsockname()[1]:04X}"
     device.setsockopt(socket.SOL_SOCKET, socket.SO_LINGER, struct.pack("ii", 1, 0))
     device.close()
-    comes_to(False, lambda: any(there.endswith(port) for _, there, _ in sockets(server)))
+    comes_to(lambda: any(there.endswith(port) for _, there, _ in sockets(server)), False)
 
 
 @contextlib.contextmanager
@@ -409,7 +281,7 @@ def halted(server):
     process = server.process.pid
     server.process.send_signal(signal.SIGSTOP)
     threads = list(pathlib.Path(f"/proc/{process}/task").glob("*/stat"))
-    comes_to({"T"}, lambda: {path.read_text().rpartition(")")[2].split()[0] for path in threads})
+    comes_to(lambda: {path.read_text().rpartition(")")[2].split()[0] for path in threads}, {"T"})
     yield
     server.process.send_signal(signal.SIGCONT)
 
@@ -474,7 +346,7 @@ def packets_without_room(program):
             with contextlib.ExitStack() as stack:
                 for _ in range(8):
                     stack.enter_context(open_device(server, status, source=source)).sendall(MOST_OF_IT)
-                    comes_to(0, lambda: sum(unread for _, _, unread in sockets(server)))
+                    comes_to(lambda: sum(unread for _, _, unread in sockets(server)), 0)
                 status.after("eight packets")
                 with connect(server, source) as device:
                     with contextlib.suppress(ConnectionError):
@@ -486,7 +358,7 @@ def packets_without_room(program):
 
 
 # Of each comparison with this one it takes long until it fails.
-SLOW = "policy 3\n" + POLICY + "user ann\nlogin-hash $6$rounds=999999$salt$" + "w" * 86 + "\n"
+SLOW = "policy 3\n" + LOGIN_POLICY + "user ann\nlogin-hash $6$rounds=999999$salt$" + "w" * 86 + "\n"
 CROWDED = (
     "tacd: 256 passwords wait to be compared with hashes; the connections of further logins are closed\n"
 )
@@ -501,7 +373,7 @@ def logins_without_room(program):
             for device in devices:
                 device.sendall(packet(LOGINS["secret"]))
                 device.setblocking(False)
-            comes_to(True, lambda: are_counted(status, devices))
+            comes_to(lambda: are_counted(status, devices), True)
             pathlib.Path(server.folder.name, "policy").chmod(0o644)
             told(operator, ("reload", "ok"))
             says(server, CROWDED + READABLE)
@@ -549,7 +421,6 @@ def connections_that_are_refused(program):
     """Each for its reason, at the port and by a proxy."""
     listed = {"key": ("--devices", "devices"), "devices": LISTED, "proxy": "proxy"}
     with counting(program, "--log", "log", **listed) as (server, operator, status):
-        require(server.process.stdout.readline() == b"listening proxy\n", "it doesn't listen to proxies")
         for why, source, head in (
             ("unknown_device", "127.0.0.9", None),
             ("unknown_device", None, line("192.0.2.9")),
@@ -644,7 +515,7 @@ def where_calls_go(program):
             status.after("a device that goes", "connections -1, ended finished +1")
             with open_device(server, status) as second:
                 first.sendall(packet(ASK, flag=KEPT))
-                comes_to(1, lambda: len(waiting))
+                comes_to(lambda: len(waiting), 1)
                 asked = is_answered(second, ASK, PERMITTED, flag=KEPT)
                 require(asked and not is_told(first), "one has to wait for the other")
                 goes_on.set()
@@ -739,14 +610,8 @@ def for_how_long_it_serves(program):
         for passed, wanted in ((0, 0), (0.999, 0), (0.001, 1), (58.999, 59), (0.001, 60), (90_000, 90_060)):
             clock.passes(passed)
             came = operator.numbers()["tacd_uptime_seconds"]
-            require(came == str(wanted), f"it tells {came} seconds, not {wanted}")
+            require(came == wanted, f"it tells {came} seconds, not {wanted}")
         stops(server, operator)
-
-
-def logged(server):
-    """The lines of the log that devices made."""
-    events = map(json.loads, pathlib.Path(server.folder.name, "log").read_text("utf-8").splitlines())
-    return [event for event in events if "device" in event]
 
 
 # After how many seconds who calls, and what the log says of it.
@@ -770,7 +635,7 @@ CALLS = (
 
 def refusals(server):
     """When lines of refused connections were made, why these were, and how many."""
-    return [(event["time"][17:23], event["why"], event["count"]) for event in logged(server)]
+    return [(event["time"][17:23], event["why"], event["count"]) for event in device_events(server)]
 
 
 def lines_of_refused_connections(program):
@@ -780,13 +645,12 @@ def lines_of_refused_connections(program):
     listed = {"key": ("--devices", "devices"), "devices": LISTED, "proxy": "proxy"}
     more = {"judged": Judged(clock=clock), **listed}
     with counting(program, "--log", "log", **more) as (server, operator, status):
-        require(server.process.stdout.readline() == b"listening proxy\n", "it doesn't listen to proxies")
         wanted = []
         for passed, why, source, head, told_of in CALLS:
             clock.passes(passed)
             is_refused(server, status, why, source, head)
             wanted += [told_of] if told_of else []
-            comes_to(wanted, lambda: refusals(server))
+            comes_to(lambda: refusals(server), wanted)
         clock.passes(0.001)
         is_refused(server, status, "unknown_device", "127.0.0.7")
         said = (
@@ -851,13 +715,7 @@ def times_of_lines(program):
         stops(server, operator)
 
 
-FAILS = "tacd: log: {}; requests aren't answered until it takes lines\n"
 TAKES = "tacd: log: it takes lines again\n"
-FULL, BROKEN = "No space left on device (os error 28)", "Input/output error (os error 5)"
-
-
-def is_of_log(call):
-    return call.file().rpartition("/")[2].startswith("log")
 
 
 def a_log_that_takes_no_lines(program):
@@ -892,11 +750,11 @@ def a_log_that_is_renamed(program):
         log = pathlib.Path(server.folder.name, "log")
         for count in range(3):
             require(is_permitted(server), "bob isn't permitted")
-            require(len(logged(server)) == 1, f"after {count} names the log has {logged(server)}")
+            require(len(device_events(server)) == 1, f"after {count} names the log has {device_events(server)}")
             log.rename(log.with_name(f"log.{count}"))
             clock.passes(1)
         told(operator, ("shadow", "none"))
-        require(logged(server) == [] and len(log.read_text().splitlines()) == 1, "it has other lines")
+        require(device_events(server) == [] and len(log.read_text().splitlines()) == 1, "it has other lines")
         stops(server, operator)
 
 
@@ -937,7 +795,7 @@ def a_line_of_any_length(program):
             sent = f"c0030104.00000001.{len(body):08x}.{body.hex()}"
             require(is_answered(device, sent, STORED), "a long record isn't stored")
             status.after("a long record", "account SUCCESS +1, records +1")
-        (event,) = logged(server)
+        (event,) = device_events(server)
         require(event["arguments"] == arguments, "its line has other arguments")
         stops(server, operator)
 
@@ -967,7 +825,7 @@ class Disk:
         count = len(self.held)
         self.errors[FDATASYNC] = "held"
         device.sendall(packet(ASK, flag=KEPT))
-        comes_to(True, lambda: len(self.held) > count)
+        comes_to(lambda: len(self.held) > count, True)
 
     def rename(self, server):
         """The log has another name, and it is seen by the next line."""
@@ -1017,11 +875,11 @@ def lines_that_are_on_the_disk(program):
         disk.holds(first)
         count = len(disk.done)
         second.sendall(packet(ASK, flag=KEPT))
-        comes_to(True, lambda: len(disk.done) > count)
+        comes_to(lambda: len(disk.done) > count, True)
         old = disk.rename(server)
         count = len(disk.done)
         third.sendall(packet(ASK, flag=KEPT))
-        comes_to(True, lambda: any(inode != old for _, inode in disk.done[count:]))
+        comes_to(lambda: any(inode != old for _, inode in disk.done[count:]), True)
         disk.held[0].set()
         for device in (second, first, third):
             wanted = packet(PERMITTED, flag=KEPT)
@@ -1094,6 +952,22 @@ def workers_that_never_begin(program):
         require(said in (b"", b"tacd: a thread could not be made\n"), f"it says {said}")
 
 
+def no_socket_of_a_console(program):
+    """Who types at what was the console before version 0.9.0 is told so, and at a socket of nobody too."""
+    with tempfile.TemporaryDirectory(prefix="tacd-counted-") as folder:
+        os.mkfifo(f"{folder}/fifo")
+        with socket.socket(socket.AF_UNIX) as nobody:
+            nobody.bind(f"{folder}/socket")
+            for name, why in (
+                ("fifo", "it is a FIFO, the console of a server before version 0.9.0: restart that first"),
+                ("socket", "no server listens at this socket"),
+            ):
+                words = ["tacd", "console", name, "status"]
+                ran = subprocess.run(words, executable=program, cwd=folder, capture_output=True)
+                came = (ran.stdout.decode(), ran.stderr.decode(), ran.returncode)
+                require(came == ("", f"tacd: {name}: {why}\n", 4), f"at a {name} it ends by {came}")
+
+
 def who_may_read_secrets(program):
     """Standard error says so of each file that any user of the machine can read, at a start and when it
     is read again. Its group may."""
@@ -1109,19 +983,3 @@ def who_may_read_secrets(program):
             with Server(program, key=key, devices=device, before=before) as server:
                 said = "".join(map(readable.format, told_of.split())) * count
                 server.ends("reload\nreload devices\nquit\n", f"ok\n{answer}\n", said)
-
-
-def no_socket_of_a_console(program):
-    """Who types at what was the console before version 0.9.0 is told so, and at a socket of nobody too."""
-    with tempfile.TemporaryDirectory(prefix="tacd-counted-") as folder:
-        os.mkfifo(f"{folder}/fifo")
-        with socket.socket(socket.AF_UNIX) as nobody:
-            nobody.bind(f"{folder}/socket")
-            for name, why in (
-                ("fifo", "it is a FIFO, the console of a server before version 0.9.0: restart that first"),
-                ("socket", "no server listens at this socket"),
-            ):
-                words = ["tacd", "console", name, "status"]
-                ran = subprocess.run(words, executable=program, cwd=folder, capture_output=True)
-                came = (ran.stdout.decode(), ran.stderr.decode(), ran.returncode)
-                require(came == ("", f"tacd: {name}: {why}\n", 4), f"at a {name} it ends by {came}")

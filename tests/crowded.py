@@ -1,51 +1,35 @@
 """Servers and devices beside others: silent ones, logins that take long, packets that come at once or
-too many, and replies that the log doesn't take. Each case is a function, as in served.py."""
+too many, and replies that the log doesn't take."""
 
 import contextlib
 import errno
 import socket
 import time
 
-from cases import Case, Check, Outcome, Play
-from served import (
+from lib.cases import SOON, require
+from lib.consoles import types
+from lib.devices import (
     ASK,
     CLOSING,
-    FDATASYNC,
     KEPT,
-    LONGEST_WAIT,
     PERMITTED,
-    SOON,
-    Server,
-    Supervised,
     answer,
     connect,
     is_answered,
     is_closed,
     is_one_closed,
     is_permitted,
+    is_told,
     packet,
-    require,
-    types,
 )
+from lib.judged import FDATASYNC, Supervised
+from lib.logins import FAILED, HASHED, LET_IN, LOGINS
+from lib.servers import Server, starts
 
-# Ann's hashes take a hundred thousand rounds, of `secret` and then of `other`.
-POLICY = (
-    "policy 3\ngroup ops\npermit show .*\nuser bob in ops\nlogin secret\nuser ann\nlogin-hash "
-    "$6$rounds=100000$salt$w7KyVDyVQ1Ki.i9lRcLj.Nm7FbZD0fiAEzSBdZi97dTM7OQulYlxEavyNLmiD7RwPspmny"
-    "4OUAUbY5MwoyL5h1\n"
-)
 OTHER_HASH = (
     "login-hash ann $6$rounds=100000$tlas$epo6ZHcV0Eo.J74AIkbACWZwbjOsNHbWK5kLCn9rJ5i9D/so0GL9xcTx"
     "embAecEGTjUClyB9A.w9nDpPxgJQX."
 )
-# Ann logs in with `secret` and with `other`, which has one letter less, and without a password.
-LOGINS = {
-    "secret": "c1010104.00000001.00000011.0101020103000006'annsecret'",
-    "other": "c1010104.00000001.00000010.0101020103000005'annother'",
-    "": "c1010104.00000001.0000000b.0101020103000000'ann'",
-}
-LET_IN = "c1010204.00000001.00000006.010000000000"
-FAILED = "c1010204.00000001.0000001b.020000150000'Authentication failed'"
 # Sessions of all kinds on one connection, each packet with its answer: a login with another password,
 # one by questions, a line that is denied, and a record.
 VISIT = (
@@ -73,22 +57,6 @@ VISIT = (
 )
 
 
-def cases(name):
-    """Each case of this file, with the name of the function that plays it."""
-    for play in (
-        silent_devices_hold_up_nobody,
-        silent_devices_are_given_up,
-        devices_that_are_gone_count_no_more,
-        slow_logins_hold_up_nobody,
-        many_packets_at_once,
-        packets_that_are_too_much_leave_nothing,
-        a_log_that_fails_once,
-        all_who_call_share_a_segment,
-    ):
-        expected = Outcome(b"", b"", 0)
-        yield Case(f"{name}: {play.__name__}", [Check(Play(play), expected, "its devices called")])
-
-
 def visits(server):
     """All packets of a visit on one connection, each once the one before is answered. Once the device
     says that nothing more comes nothing is sent, and the connection is closed."""
@@ -104,7 +72,7 @@ def silent_devices_hold_up_nobody(program):
     of two devices one each."""
     for workers in ("1", "3"):
         options = ("--workers", workers, "--per-address", "0")
-        with Server(program, *options, policy=POLICY) as server, contextlib.ExitStack() as stack:
+        with Server(program, *options, policy=HASHED) as server, contextlib.ExitStack() as stack:
             for _ in range(200):
                 stack.enter_context(connect(server))
             began = time.monotonic()
@@ -151,10 +119,9 @@ def devices_that_are_gone_count_no_more(program):
 def slow_logins_hold_up_nobody(program):
     """While ann logs in again and again, the one worker serves a visit, and refuses a login without a
     password, also once her hash is another one. All her logins are answered rightly."""
-    with Server(program, "--workers", "1", "--per-address", "0", policy=POLICY) as server:
+    with Server(program, "--workers", "1", "--per-address", "0", policy=HASHED) as server:
         connect(server).close()
-        listening = server.process.stdout.readline().decode()
-        require(listening == f"listening {server.address[1]}\n", f"it says {listening}")
+        starts(server)
         for password, other in (("secret", "other"), ("other", "secret")):
             with contextlib.ExitStack() as stack:
                 devices = [stack.enter_context(connect(server)) for _ in range(24)]
@@ -170,20 +137,6 @@ def slow_logins_hold_up_nobody(program):
                     require(came == reply, f"{password} is answered by {came}")
             types(server, OTHER_HASH, "ok")
         server.ends("quit\n", is_listening=False)
-
-
-def is_told(device):
-    """Whether something has come, or the connection is closed."""
-    device.setblocking(False)
-    try:
-        device.recv(1)
-        return True
-    except BlockingIOError:
-        return False
-    except ConnectionError:
-        return True
-    finally:
-        device.settimeout(LONGEST_WAIT)
 
 
 def many_packets_at_once(program):

@@ -1,13 +1,13 @@
 """What the pages say of this repository: that what they link and name is there, that none is too long, that
-none is named nowhere, and that docs/contracts tells the calls of each crate. Each case is a function that
-raises Wrong where something goes otherwise. It takes no program."""
+none is named nowhere, and that docs/contracts tells the calls of each crate. It takes no program."""
 
+import functools
 import pathlib
 import re
 import subprocess
 
-import pages
-from cases import Case, Check, Outcome, Play, Wrong
+from lib import pages
+from lib.cases import Wrong, cases
 
 TOP = pathlib.Path(__file__).resolve().parent.parent
 PAGES = ["README.md", "CONTRIBUTING.md", "CHANGES.md", "tests/README.md"]
@@ -15,26 +15,21 @@ PAGES = ["README.md", "CONTRIBUTING.md", "CHANGES.md", "tests/README.md"]
 GIVEN_ON = re.compile(r"^pub use (?:crate::|self::)?(\w+)::(\{[^}]*\}|\w+);$", re.M | re.S)
 
 
-def cases(name):
-    """Each page by its name, and then what is asked of all of them."""
-    plays = [(f"{page} names what is there", names_what_is_there(page)) for page in all_pages()]
-    plays += [(it.__name__, it) for it in (each_page_is_named, contracts_are_told)]
-    for what, play in plays:
-        yield Case(f"{name}: {what}", [Check(Play(play), Outcome(b"", b"", 0), "the page")])
-
-
 def all_pages():
     made = "docs/CONTRACTS.md"
     return [*PAGES, *sorted({str(it.relative_to(TOP)) for it in (TOP / "docs").glob("*.md")} - {made})]
 
 
-def names_what_is_there(page):
-    def play(program):
-        lost = list(pages.lost(TOP, pathlib.Path(page)))
-        if lost:
-            raise Wrong("\n".join(f"{page}: {line}" for line in lost))
+@cases
+def names_what_is_there():
+    for page in all_pages():
+        yield page, functools.partial(loses_nothing, page)
 
-    return play
+
+def loses_nothing(page, program):
+    lost = list(pages.lost(TOP, pathlib.Path(page)))
+    if lost:
+        raise Wrong("\n".join(f"{page}: {line}" for line in lost))
 
 
 def each_page_is_named(program):

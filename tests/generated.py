@@ -3,10 +3,12 @@ file, patterns of each size, the longest packets and replies, thousands of recor
 each beginning of a body, and the longest file of a key. Some can't be written in a file of tests: a
 byte that isn't UTF-8, and words with ends of lines."""
 
-import hashlib
+import functools
 
-from cases import Case, Check, File, Outcome, Run, replay_check
-from notation import spelled, spelled_out
+from bench.lib.packet import HEADER_SIZE, padded
+from lib.cases import Check, File, Outcome, Run, cases, replay_check
+from lib.notation import spelled, spelled_out
+from lib.scripted import ATTRIBUTES, STORED, asked, given, granted, opened, packet, record, tally_line
 
 OPS = "group ops\npermit show .*\nuser bob in ops\n"
 BOB = OPS + "login secret\n"
@@ -19,204 +21,19 @@ BAD_BODY = "reply 1 c0020200.00000001.0000000e.110000080000'bad body'\nclosed 1\
 USERNAME = "reply 1 c0010200.00000001.00000010.0400000a0000'Username: '\n"
 
 
-def cases(name):
-    """Each case of this file, with the name of the function that makes it."""
-    for make in (
-        longest_bodies,
-        longest_packets_on_a_line,
-        ten_thousand_records,
-        records_up_to_300,
-        records_of_many_users,
-        many_records_of_a_user,
-        records_and_rules_of_each_size,
-        records_of_any_bytes,
-        policies_at_the_limits,
-        edits_at_the_limits,
-        printed_policies,
-        patterns_of_each_size,
-        faults_at_each_place,
-        longest_edits,
-        longest_questions,
-        bytes_cut_at_each_place,
-        as_many_connections,
-        a_group_of_many_users,
-        a_chain_of_many_rules,
-        words_that_differ_at_their_ends,
-        longest_replies,
-        lines_about_services_at_the_limit,
-        cut_requests,
-        cut_starts,
-        cut_continuations,
-        cut_records,
-    ):
+def scripts(make):
+    """Marks what makes cases of scripts: it yields what each is, the script, and what that prints."""
+
+    @cases
+    @functools.wraps(make)
+    def made():
         for part, script, printed in make():
-            checks = [replay_check(*(spelled_out(text).encode() for text in (script, printed)))]
-            yield Case(f"{name}: {make.__name__}, {part}", checks)
-    yield Case(f"{name}: the longest line of a log", [longest_line_of_a_log()])
-    for length, complained in (
-        (65_536, b"tacd: nobody: No such file or directory (os error 2)\n"),
-        (65_537, b"tacd: key: it is over 65536 bytes long\n"),
-    ):
-        yield Case(f"{name}: a key's file of {length} bytes", [key_file(length, complained)])
-    for part, check in reviews():
-        yield Case(f"{name}: {part}", [check])
-    for part, text, words, printed, status in devices():
-        file = File("devices", text.encode("latin-1"), 0o600)
-        run = Run(("devices", "devices", *words), b"", (file,))
-        complained = b"tacd: 'tacd devices --lint devices' says more\n" if status == 1 else b""
-        check = Check(run, Outcome(printed.encode(), complained, status), "devices")
-        yield Case(f"{name}: devices, {part}", [check])
-    for part, text, told in lints():
-        file = File("devices", text.encode("latin-1"), 0o600)
-        run = Run(("devices", "devices", "--lint"), b"", (file,))
-        printed = "".join(f"line {line}\n" for line in told)
-        check = Check(run, Outcome(printed.encode(), b"", 1), "the lint")
-        yield Case(f"{name}: devices, {part}", [check])
-    for words in (
-        ("devices", "devices"),
-        ("devices", "--lint", "devices"),
-        ("serve", "--port", "1", "--devices", "devices", "nobody"),
-    ):
-        yield Case(f"{name}: {' '.join(words[:2])} of a file that is too long", [long_devices(words)])
+            yield part, replay_check(*(spelled_out(text).encode() for text in (script, printed)))
+
+    return made
 
 
-def key_file(length, complained):
-    """A server whose key's file is so long, and whose policy's file isn't there."""
-    key = File("key", b"tundra\n".ljust(length, b"x"), 0o600)
-    run = Run(("serve", "--port", "1", "--key-file", "key", "nobody"), b"", (key,))
-    return Check(run, Outcome(b"", complained, 4), "the start of a server")
-
-
-def reviews():
-    """What no file of tests can write down: a byte that isn't UTF-8, and words of several lines."""
-    policy = File("policy", b"user b\xf6b\nlogin x\n", 0o600)
-    told = b"line 1 column 7: a byte that isn't UTF-8: a policy is printable ASCII\n"
-    run = Run(("lint", "policy"), b"", (policy,))
-    yield "a byte that isn't UTF-8", Check(run, Outcome(told, b"", 1), "lint")
-    policy = File("policy", OPS.encode(), 0o600)
-    for line in "show\n", "show\nbob show":
-        run = Run(("why", "policy", "bob", line), b"", (policy,))
-        yield f"why bob {line!r}", Check(run, Outcome(b"fault BadQuestion\n", b"", 1), "why")
-    yield "edits that are too large on their way", too_large_on_the_way()
-
-
-def device(number, prefixes):
-    """A device of that number, with so many addresses, in four lines or more."""
-    places = "".join(f"at 10.{number >> 8}.{number & 0xff}.{place}\n" for place in range(prefixes))
-    return f"device d{number}\n{places}key the key of d{number:04}\n"
-
-
-def devices():
-    """Devices' files at the limits, with the addresses that are asked about: 4,096 devices and 16,384
-    prefixes; and bytes that aren't UTF-8."""
-    many = "".join(device(number, 1) for number in range(4096))
-    yield "as many", many, (), "devices ok: 4096 devices, 4096 prefixes\n", 0
-    found = "10.15.255.0 d4095 10.15.255.0/32 line 12287\n"
-    yield "as many, asked about", many, ("10.15.255.0",), found, 0
-    for line, fault in (
-        ("device x", "7 Limit"),
-        # What comes before it on the line.
-        ("device d0", "6 Repeated"),
-        ("device d4095", "6 Repeated"),
-        ("device ,", "2 BadName"),
-        ("device", "1 BadLine"),
-    ):
-        told = f"devices fault line 12289 {fault}\n"
-        yield f"as many, then {line!r}", many + line, (), told, 1
-    full = "".join(device(number, 16) for number in range(1024))
-    yield "full", full, (), "devices ok: 1024 devices, 16384 prefixes\n", 0
-    asked = ("10.3.255.15", "10.3.255.16", "10.0.0.0")
-    found = (
-        "10.3.255.15 d1023 10.3.255.15/32 line 18431\n"
-        "10.3.255.16 may not call\n"
-        "10.0.0.0 d0 10.0.0.0/32 line 2\n"
-    )
-    yield "full, asked about", full, asked, found, 5
-    for line, fault in (
-        ("at ::1", "7 Limit"),
-        ("at 10.0.0.0/31", "7 Limit"),
-        ("at 10.0.0.0", "6 Repeated"),
-        ("at 10.3.255.15/32", "6 Repeated"),
-        ("at 10.0.0.0/33", "4 BadPrefix"),
-        ("at 10.0.0.0 ", "1 BadLine"),
-    ):
-        told = f"devices fault line 18433 {fault}\n"
-        yield f"full, then {line!r}", full + line, (), told, 1
-    # The last device has no address, since there is no room for one.
-    told = "devices fault line 18433 9 NoAddress\n"
-    yield "full, then one without an address", full + "device x\nkey k\n", (), told, 1
-    for byte in "\x7f", "\x80", "\xff", "\0":
-        told = "devices fault line 2 1 BadLine\n"
-        yield f"the byte {byte!r}", f"device a\nkey k{byte}\nat ::1\n", (), told, 1
-
-
-def lints():
-    """Devices' files that are refused, and what is told of their lines: each byte, the limits, as many
-    faults as are told, and lines of 16 MB."""
-    odd = {"\r": "a carriage return: lines end in LF alone", "\t": "a tab: is a space meant?"}
-    for code in (*range(0x0A), *range(0x0B, 0x20), *range(0x7F, 0x100)):
-        byte = chr(code)
-        told = odd.get(byte, "a byte that isn't printable ASCII")
-        text = f"device a\nat ::1\nkey wintry{byte}tundra-ridge\n"
-        yield f"the byte {byte!r} in a key", text, [f"3 column 11: {told}"]
-    many = "".join(device(number, 1) for number in range(4096))
-    yield "a device too many", f"{many}device x", ["12289 column 1: more than 4096 devices"]
-    again = ["12290 column 2: a device of this name begins at line 1 already"]
-    yield "one again", f"{many}\n device d0", again
-    full = "".join(device(number, 16) for number in range(1024))
-    yield "a prefix too many", f"{full}at ::1", ["18433 column 1: more than 16384 lines 'at'"]
-    again = ["18433 column 1: line 2 has these addresses already"]
-    yield "a prefix again", f"{full}at 10.0.0.0/32", again
-    unknown = "no line of a devices' file begins with this word"
-    told = [f"{number} column 1: {unknown}" for number in range(1, 1001)]
-    yield "1,000 wrong lines", "x\n" * 1000, told
-    enough = "1001 column 1: this line and those after it aren't looked at: mend the others first"
-    yield "one more", "x\n" * 1001, [*told, enough]
-    yield "as many as there are", "x\n" * 8_388_608, [*told, enough]
-    yield "a line of 16 MB", "x" * 16_777_216, [f"1 column 1: {unknown}"]
-    spaces = "device a\nat ::1\nkey k\n".ljust(16_777_215) + "x"
-    yield "16 MB of spaces", spaces, [f"4 column {16_777_216 - 22}: {unknown}"]
-    zeros = "\0" * 16_777_216
-    yield "16 MB of zeros", zeros, ["1 column 1: a byte that isn't printable ASCII"]
-    lacks = "this device has no line 'at'"
-    lines = "".join(f"device d{number}\nkey k\n" for number in range(1001))
-    told = [f"{2 * number + 1} column 1: {lacks}" for number in range(1000)]
-    enough = "2000 column 1: this line and those after it aren't looked at: mend the others first"
-    yield "1,001 devices that lack something", lines, [*told, enough]
-
-
-def long_devices(words):
-    """A file of a byte too many, of which nothing is told."""
-    file = File("devices", b"# no device\n".ljust(16_777_217, b"\n"), 0o600)
-    complained = b"tacd: devices: it is over 16777216 bytes long\n"
-    run = Run(words, b"", (file,))
-    return Check(run, Outcome(b"", complained, 4), words[0])
-
-
-def too_large_on_the_way():
-    """After the first batch `s` is in `q`, and `t` is still in `s`: so `t` has the rule of `q` beside
-    its own, which neither policy puts together."""
-    groups = "group q\ndeny .*b........\ngroup o\ngroup x\ngroup y in x\ngroup z in y\n"
-    texts = [
-        f"{groups}group s in {above}\nuser t in {parent}\ndeny .*a........\n"
-        + "".join(f"user u{user} in {others}\n" for user in range(80))
-        for above, parent, others in (("o", "s", "o"), ("q", "z", "y"))
-    ]
-    files = [File(name, text.encode(), 0o600) for name, text in zip(("old", "new"), texts)]
-    told = b"batch 1: refused 11 TooManyStates user t\n"
-    run = Run(("diff", "--edits", "old", "new"), b"", tuple(files))
-    return Check(run, Outcome(told, b"", 1), "diff --edits")
-
-
-def opened(policy):
-    return f"key k\n{policy}run\nopen 1\n"
-
-
-def packet(header, body):
-    """A packet on connection 1, by the header but for the length."""
-    return f"packet 1 {header}.{len(body):08x}.{body.hex()}\n"
-
-
+@scripts
 def longest_bodies():
     """The longest body is read, and is wrong; one that is a byte longer isn't read."""
     for length, printed in ((131_075, BAD_BODY), (131_076, "closed 1\n")):
@@ -224,6 +41,7 @@ def longest_bodies():
         yield f"{length} bytes", script, printed
 
 
+@scripts
 def longest_packets_on_a_line():
     """Two packets that are as long as any may be, in a line of half a megabyte: each has a password
     of 65,535 bytes, which is wrong, and as many bytes of data."""
@@ -246,6 +64,7 @@ def longest_packets_on_a_line():
     yield "two of them", script, printed
 
 
+@scripts
 def ten_thousand_records():
     """A script of 6 MB, of records whose tasks are as long as an argument lets them be. Their list
     is an output of 3 MB."""
@@ -267,26 +86,11 @@ def ten_thousand_records():
     yield "their list and tally", script, printed
 
 
-STORED = "reply 1 c0030204.00000001.00000005.0000000001\n"
-
-
-def record(kind, user, *arguments):
-    """A record on a connection that stays open, of this kind: 2 START, 4 STOP, 8 WATCHDOG."""
-    fixed = bytes([kind, 6, 1, 1, 1, len(user), 0, 0, len(arguments)])
-    text = user + "".join(arguments)
-    return packet("c0030104.00000001", fixed + bytes(map(len, arguments)) + text.encode())
-
-
-def tally_line(subject, *counts):
-    names = ("starts", "stops", "watchdogs", "updates", "open", "elapsed", "drift")
-    counted = " ".join(f"{name} {count}" for name, count in zip(names, counts))
-    return f"tally {subject} {counted}\n"
-
-
 RELOAD = ("elapsed_time=2", "service=shell", "cmd=reload")
 SHOW = ("service=shell", "cmd=show")
 
 
+@scripts
 def records_up_to_300():
     """However many there are, one more is stored and counted."""
     script = opened("user bob\n")
@@ -297,6 +101,7 @@ def records_up_to_300():
     yield "of a task", script, printed
 
 
+@scripts
 def records_of_many_users():
     """Each user is tallied at once, and an edit counts again what it changes."""
     script, printed = opened("user u7\nuser u9\n"), ""
@@ -315,6 +120,7 @@ def records_of_many_users():
     yield "5,000 of them", script, printed
 
 
+@scripts
 def many_records_of_a_user():
     """So is a user of many tasks, alone and for the group."""
     script, printed = opened("group all\nuser bob in all\npermit show\n"), ""
@@ -334,6 +140,7 @@ def many_records_of_a_user():
     yield "5,000 of a user", script, printed
 
 
+@scripts
 def records_and_rules_of_each_size():
     """Up to sixty, each of which is added, listed, decided by and counted."""
     script, printed, records, rules = opened("user bob\n"), "", "", ""
@@ -351,6 +158,7 @@ def records_and_rules_of_each_size():
     yield "up to sixty", script, printed
 
 
+@scripts
 def records_of_any_bytes():
     """A byte that isn't printed as it is stands in percent form, and no bytes are a `%`. A line that
     isn't of symbols isn't kept."""
@@ -367,6 +175,7 @@ def records_of_any_bytes():
     yield "each of them", script, printed
 
 
+@scripts
 def policies_at_the_limits():
     """A policy may have 1,024 subjects, and each of them 256 rules."""
     users = "".join(f"user s{number}\n" for number in range(1024))
@@ -394,6 +203,7 @@ def policies_at_the_limits():
         yield f"then {lines!r}", f"key k\n{rules}{lines}\nrun\n", f"fault line {fault}\n"
 
 
+@scripts
 def edits_at_the_limits():
     """Where there are 256 rules and 1,024 subjects, one more is taken only after one is gone."""
     users = "".join(f"user u{number}\n" for number in range(1, 1024))
@@ -421,6 +231,7 @@ def edits_at_the_limits():
 SECRET = "0123456789abcdef" * 8
 
 
+@scripts
 def printed_policies():
     """Policies of more than 200,000 bytes, of the longest patterns and of the most lines are printed
     as they were read."""
@@ -469,6 +280,7 @@ def read_all(patterns):
     return f"{script}end\nrun\n", f"fault line {len(lines) + 3} 1 BadLine\n"
 
 
+@scripts
 def patterns_of_each_size():
     """Patterns of each length, of many factors and of each depth."""
     yield "letters", *read_all("a" * length for length in range(401))
@@ -499,6 +311,7 @@ def patterns_of_each_size():
     yield "braces", f"key k\n{old}run\nconsole policy\n", f"policy 2\n{new}"
 
 
+@scripts
 def faults_at_each_place():
     """The last symbol of a pattern is refused, after as many others as there may be; and patterns of
     each length that is too long, too deep or too large."""
@@ -528,6 +341,7 @@ def faults_at_each_place():
         yield fault, script, f"refused 8 BadPattern {fault}\n" * len(patterns)
 
 
+@scripts
 def longest_edits():
     """Long lines that are edits of a full policy, or no edits: what is told of each is short."""
     begin = f"key k\n{LONG_RULES}run\n"
@@ -545,6 +359,7 @@ def longest_edits():
             yield f"{start!r} and {count} symbols", script, "refused 1 BadEdit\n"
 
 
+@scripts
 def longest_questions():
     """Lines of 5,000 bytes that are a question, or set too long a secret; a short one comes after."""
     for start, answer in (
@@ -561,6 +376,7 @@ KEPT = SHOW_VERSION.replace("c0020100", "c0020104")
 STILL_OPEN = "reply 1 c0020204.00000001.00000006.010000000000\n"
 
 
+@scripts
 def bytes_cut_at_each_place():
     """Two requests in one piece, in two of each size, and in many."""
     twice = KEPT.removesuffix("\n") + KEPT.removeprefix("packet 1")
@@ -568,19 +384,12 @@ def bytes_cut_at_each_place():
         yield f"pieces of {size}", opened(OPS) + f"pieces {size}\n{twice}", STILL_OPEN * 2
 
 
-def padded(packet):
-    """A packet as it is sent under the key `k` (RFC 8907, section 4.5)."""
-    head, body = packet[:12], packet[12:]
-    pad = digest = b""
-    while len(pad) < len(body):
-        digest = hashlib.md5(head[4:8] + b"k" + head[:1] + head[2:3] + digest).digest()
-        pad += digest
-    return head + bytes(one ^ other for one, other in zip(body, pad))
-
-
+@scripts
 def as_many_connections():
     """On each of 65,536 connections comes the first part of a request, and then the rest on each."""
-    request = padded(bytes.fromhex(spelled(KEPT.strip()).removeprefix("packet 1 ")))
+    clear = bytes.fromhex(spelled(KEPT.strip()).removeprefix("packet 1 "))
+    head, body = clear[:HEADER_SIZE], clear[HEADER_SIZE:]
+    request = head + padded(head, body, b"k")
     first, rest = request[:20].hex(), request[20:].hex()
     numbers = range(65_536)
     script = opened(OPS).removesuffix("open 1\n")
@@ -592,6 +401,7 @@ def as_many_connections():
     yield "open at once", script + f"bytes 0 {first}\n", printed
 
 
+@scripts
 def a_group_of_many_users():
     """Users of a group who have no rules of their own, but for the last."""
     names = [*(f"u{user}" for user in range(1000)), "last"]
@@ -604,6 +414,7 @@ def a_group_of_many_users():
     yield "what an edit changes, and what is shadowed", script, printed
 
 
+@scripts
 def a_chain_of_many_rules():
     """A user in the last of seven groups, each in the one before, each with as many rules as there
     may be. A rule holds one word, which no other does."""
@@ -622,6 +433,7 @@ def a_chain_of_many_rules():
     yield "which line reaches each", script, printed
 
 
+@scripts
 def words_that_differ_at_their_ends():
     """A hundred rules of the longest words, which differ in their last two symbols."""
     words = [f"{'a' * 198}{word:02}" for word in range(100)]
@@ -633,38 +445,7 @@ def words_that_differ_at_their_ends():
     yield "which line reaches each", script, printed
 
 
-# As many attributes as a subject may have, each as long as it may be.
-ATTRIBUTES = [f"a{number:02}=" + "v" * 251 for number in range(64)]
-
-
-def given(service):
-    """A group that is given all of these with a service, and a level with a shell."""
-    lines = "".join(f"service {service} {attribute}\n" for attribute in ATTRIBUTES)
-    return f"policy 3\ngroup ops\n{lines}priv 15\npermit ()\n"
-
-
-def asked(arguments, flags="00", session=1):
-    """A packet in which bob asks by these arguments (RFC 8907, section 6.1)."""
-    fixed = f"06010101030400{counted(arguments)}"
-    return with_header(f"c00201{flags}.{session:08x}", fixed, "bobtty0" + "".join(arguments))
-
-
-def granted(arguments, flags="00", session=1):
-    """The reply that gives these (section 6.2)."""
-    lengths = counted(arguments)
-    fixed = f"01{lengths[:2]}00000000{lengths[2:]}"
-    return with_header(f"c00202{flags}.{session:08x}", fixed, "".join(arguments))
-
-
-def counted(arguments):
-    """How many there are, and their lengths."""
-    return bytes([len(arguments), *map(len, arguments)]).hex()
-
-
-def with_header(header, fixed, text):
-    return f"{header}.{len(fixed) // 2 + len(text):08x}.{fixed}'{text}'"
-
-
+@scripts
 def longest_replies():
     """The longest has a level and 64 attributes of 255 bytes: 16,414 bytes with its header."""
     for service, arguments, reply in (
@@ -695,20 +476,26 @@ def longest_replies():
         )
 
 
-def longest_line_of_a_log():
-    """A line of the log has all that is given, in the order in which the device gets it."""
-    script = opened(given("x") + "user bob in ops\n") + f"packet 1 {asked(['service=x'])}\n"
-    listed = ",".join(f'"{it}"' for it in ATTRIBUTES)
-    logged = (
-        '{"time":null,"device":"connection 1","session":"00000001","type":"command","user":"bob",'
-        '"port":"tty0","from":"","privilege":1,"service":1,"arguments":["service=x"],"line":null,'
-        f'"status":"PASS_ADD","text":"","given":[{listed}]}}\n'
-    )
-    printed = f"reply 1 {granted(ATTRIBUTES)}\nclosed 1\n"
-    script, printed = (spelled_out(text).encode() for text in (script, printed))
-    return replay_check(script, printed, logged=logged.encode())
+TYPED_AT_THE_LIMIT = (
+    ("console service group ops x b=", "refused 10 Limit"),
+    ("console service group ops y", "refused 10 Limit"),
+    ("console refuse group ops y", "refused 10 Limit"),
+    (f"console service group ops x {ATTRIBUTES[0]}", "refused 3 Exists"),
+    ("console service group ops x b", "refused 9 BadValue"),
+    ("console service group ops y b", "refused 9 BadValue"),
+    (
+        f"console clear service group ops x {ATTRIBUTES[0]}",
+        f"ok\nuser bob service x no longer gives: {ATTRIBUTES[0]}",
+    ),
+    ("console service group ops x b=", "ok\nuser bob service x now gives: b="),
+    (
+        f"packet 1 {asked(['service=x'])}",
+        f"reply 1 {granted([*ATTRIBUTES[1:], 'b='])}\nclosed 1",
+    ),
+)
 
 
+@scripts
 def lines_about_services_at_the_limit():
     """Where there are 64 one more is refused, and taken once one is gone."""
     for lines, fault in (
@@ -727,23 +514,7 @@ def lines_about_services_at_the_limit():
         script = f"key k\n{given('x')}{lines}\nrun\n"
         yield f"then {lines[:40]!r}", script, f"fault line {fault}\n"
     script, printed = opened(given("x") + "user bob in ops\n"), ""
-    for line, answer in (
-        ("console service group ops x b=", "refused 10 Limit"),
-        ("console service group ops y", "refused 10 Limit"),
-        ("console refuse group ops y", "refused 10 Limit"),
-        (f"console service group ops x {ATTRIBUTES[0]}", "refused 3 Exists"),
-        ("console service group ops x b", "refused 9 BadValue"),
-        ("console service group ops y b", "refused 9 BadValue"),
-        (
-            f"console clear service group ops x {ATTRIBUTES[0]}",
-            f"ok\nuser bob service x no longer gives: {ATTRIBUTES[0]}",
-        ),
-        ("console service group ops x b=", "ok\nuser bob service x now gives: b="),
-        (
-            f"packet 1 {asked(['service=x'])}",
-            f"reply 1 {granted([*ATTRIBUTES[1:], 'b='])}\nclosed 1",
-        ),
-    ):
+    for line, answer in TYPED_AT_THE_LIMIT:
         script += f"{line}\n"
         printed += f"{answer}\n"
         yield f"up to {line[:40]}", script, printed
@@ -759,6 +530,7 @@ def each_beginning(before, header, body, answered, refused):
         yield f"{length} of {len(body)} bytes", script, printed + answer
 
 
+@scripts
 def cut_requests():
     return each_beginning(
         ("", ""),
@@ -769,6 +541,7 @@ def cut_requests():
     )
 
 
+@scripts
 def cut_starts():
     return each_beginning(
         ("", ""),
@@ -779,6 +552,7 @@ def cut_starts():
     )
 
 
+@scripts
 def cut_continuations():
     return each_beginning(
         ("packet 1 c0010100.00000001.0000000c.0101010100040000'tty0'\n", USERNAME),
@@ -789,6 +563,7 @@ def cut_continuations():
     )
 
 
+@scripts
 def cut_records():
     return each_beginning(
         ("", ""),
@@ -798,3 +573,183 @@ def cut_records():
         "reply 1 c0030200.00000001.00000005.0000000001\nclosed 1\n",
         "reply 1 c0030200.00000001.0000000d.0008000002'bad body'\nclosed 1\n",
     )
+
+
+@cases
+def longest_line_of_a_log():
+    """A line of the log has all that is given, in the order in which the device gets it."""
+    script = opened(given("x") + "user bob in ops\n") + f"packet 1 {asked(['service=x'])}\n"
+    listed = ",".join(f'"{it}"' for it in ATTRIBUTES)
+    logged = (
+        '{"time":null,"device":"connection 1","session":"00000001","type":"command","user":"bob",'
+        '"port":"tty0","from":"","privilege":1,"service":1,"arguments":["service=x"],"line":null,'
+        f'"status":"PASS_ADD","text":"","given":[{listed}]}}\n'
+    )
+    printed = f"reply 1 {granted(ATTRIBUTES)}\nclosed 1\n"
+    script, printed = (spelled_out(text).encode() for text in (script, printed))
+    yield "all that is given", replay_check(script, printed, logged=logged.encode())
+
+
+@cases
+def keys_files():
+    """A server whose key's file is so long, and whose policy's file isn't there."""
+    for length, complained in (
+        (65_536, b"tacd: nobody: No such file or directory (os error 2)\n"),
+        (65_537, b"tacd: key: it is over 65536 bytes long\n"),
+    ):
+        key = File("key", b"tundra\n".ljust(length, b"x"), 0o600)
+        run = Run(("serve", "--port", "1", "--key-file", "key", "nobody"), b"", (key,))
+        yield f"{length} bytes", Check(run, Outcome(b"", complained, 4), "the start of a server")
+
+
+@cases
+def reviews():
+    """What no file of tests can write down: a byte that isn't UTF-8, and words of several lines."""
+    policy = File("policy", b"user b\xf6b\nlogin x\n", 0o600)
+    told = b"line 1 column 7: a byte that isn't UTF-8: a policy is printable ASCII\n"
+    run = Run(("lint", "policy"), b"", (policy,))
+    yield "a byte that isn't UTF-8", Check(run, Outcome(told, b"", 1), "lint")
+    policy = File("policy", OPS.encode(), 0o600)
+    for line in "show\n", "show\nbob show":
+        run = Run(("why", "policy", "bob", line), b"", (policy,))
+        yield f"why bob {line!r}", Check(run, Outcome(b"fault BadQuestion\n", b"", 1), "why")
+    yield "edits that are too large on their way", too_large_on_the_way()
+
+
+def device(number, prefixes):
+    """A device of that number, with so many addresses, in four lines or more."""
+    places = "".join(f"at 10.{number >> 8}.{number & 0xff}.{place}\n" for place in range(prefixes))
+    return f"device d{number}\n{places}key the key of d{number:04}\n"
+
+
+def listed(text, words, printed, status):
+    """What `tacd devices` prints of this file."""
+    run = Run(("devices", "devices", *words), b"", (File("devices", text.encode("latin-1"), 0o600),))
+    complained = b"tacd: 'tacd devices --lint devices' says more\n" if status == 1 else b""
+    return Check(run, Outcome(printed.encode(), complained, status), "devices")
+
+
+@cases
+def devices():
+    """A file of 4,096 devices, and an address that is asked about."""
+    many = "".join(device(number, 1) for number in range(4096))
+    yield "as many", listed(many, (), "devices ok: 4096 devices, 4096 prefixes\n", 0)
+    found = "10.15.255.0 d4095 10.15.255.0/32 line 12287\n"
+    yield "as many, asked about", listed(many, ("10.15.255.0",), found, 0)
+    for line, fault in (
+        ("device x", "7 Limit"),
+        # What comes before it on the line.
+        ("device d0", "6 Repeated"),
+        ("device d4095", "6 Repeated"),
+        ("device ,", "2 BadName"),
+        ("device", "1 BadLine"),
+    ):
+        told = f"devices fault line 12289 {fault}\n"
+        yield f"as many, then {line!r}", listed(many + line, (), told, 1)
+
+
+@cases
+def prefixes():
+    """The same of 16,384 prefixes."""
+    full = "".join(device(number, 16) for number in range(1024))
+    yield "full", listed(full, (), "devices ok: 1024 devices, 16384 prefixes\n", 0)
+    asked = ("10.3.255.15", "10.3.255.16", "10.0.0.0")
+    found = (
+        "10.3.255.15 d1023 10.3.255.15/32 line 18431\n"
+        "10.3.255.16 may not call\n"
+        "10.0.0.0 d0 10.0.0.0/32 line 2\n"
+    )
+    yield "full, asked about", listed(full, asked, found, 5)
+    for line, fault in (
+        ("at ::1", "7 Limit"),
+        ("at 10.0.0.0/31", "7 Limit"),
+        ("at 10.0.0.0", "6 Repeated"),
+        ("at 10.3.255.15/32", "6 Repeated"),
+        ("at 10.0.0.0/33", "4 BadPrefix"),
+        ("at 10.0.0.0 ", "1 BadLine"),
+    ):
+        told = f"devices fault line 18433 {fault}\n"
+        yield f"full, then {line!r}", listed(full + line, (), told, 1)
+    # The last device has no address, since there is no room for one.
+    told = "devices fault line 18433 9 NoAddress\n"
+    yield "full, then one without an address", listed(full + "device x\nkey k\n", (), told, 1)
+
+
+@cases
+def bytes_of_devices():
+    """Those that aren't UTF-8, and a control character."""
+    for byte in "\x7f", "\x80", "\xff", "\0":
+        told = "devices fault line 2 1 BadLine\n"
+        yield f"the byte {byte!r}", listed(f"device a\nkey k{byte}\nat ::1\n", (), told, 1)
+
+
+def linted(text, told):
+    """What a lint tells of the lines of a devices' file."""
+    run = Run(("devices", "devices", "--lint"), b"", (File("devices", text.encode("latin-1"), 0o600),))
+    printed = "".join(f"line {line}\n" for line in told)
+    return Check(run, Outcome(printed.encode(), b"", 1), "the lint")
+
+
+@cases
+def lints():
+    """Devices' files that are refused, and what is told of their lines: each byte, the limits, as many
+    faults as are told, and lines of 16 MB."""
+    odd = {"\r": "a carriage return: lines end in LF alone", "\t": "a tab: is a space meant?"}
+    for code in (*range(0x0A), *range(0x0B, 0x20), *range(0x7F, 0x100)):
+        byte = chr(code)
+        told = odd.get(byte, "a byte that isn't printable ASCII")
+        text = f"device a\nat ::1\nkey wintry{byte}tundra-ridge\n"
+        yield f"the byte {byte!r} in a key", linted(text, [f"3 column 11: {told}"])
+    many = "".join(device(number, 1) for number in range(4096))
+    yield "a device too many", linted(f"{many}device x", ["12289 column 1: more than 4096 devices"])
+    again = ["12290 column 2: a device of this name begins at line 1 already"]
+    yield "one again", linted(f"{many}\n device d0", again)
+    full = "".join(device(number, 16) for number in range(1024))
+    yield "a prefix too many", linted(f"{full}at ::1", ["18433 column 1: more than 16384 lines 'at'"])
+    again = ["18433 column 1: line 2 has these addresses already"]
+    yield "a prefix again", linted(f"{full}at 10.0.0.0/32", again)
+    unknown = "no line of a devices' file begins with this word"
+    told = [f"{number} column 1: {unknown}" for number in range(1, 1001)]
+    yield "1,000 wrong lines", linted("x\n" * 1000, told)
+    enough = "1001 column 1: this line and those after it aren't looked at: mend the others first"
+    yield "one more", linted("x\n" * 1001, [*told, enough])
+    yield "as many as there are", linted("x\n" * 8_388_608, [*told, enough])
+    yield "a line of 16 MB", linted("x" * 16_777_216, [f"1 column 1: {unknown}"])
+    spaces = "device a\nat ::1\nkey k\n".ljust(16_777_215) + "x"
+    yield "16 MB of spaces", linted(spaces, [f"4 column {16_777_216 - 22}: {unknown}"])
+    zeros = "\0" * 16_777_216
+    yield "16 MB of zeros", linted(zeros, ["1 column 1: a byte that isn't printable ASCII"])
+    lacks = "this device has no line 'at'"
+    lines = "".join(f"device d{number}\nkey k\n" for number in range(1001))
+    told = [f"{2 * number + 1} column 1: {lacks}" for number in range(1000)]
+    enough = "2000 column 1: this line and those after it aren't looked at: mend the others first"
+    yield "1,001 devices that lack something", linted(lines, [*told, enough])
+
+
+@cases
+def long_devices():
+    """A file of a byte too many, of which nothing is told."""
+    file = File("devices", b"# no device\n".ljust(16_777_217, b"\n"), 0o600)
+    complained = b"tacd: devices: it is over 16777216 bytes long\n"
+    for words in (
+        ("devices", "devices"),
+        ("devices", "--lint", "devices"),
+        ("serve", "--port", "1", "--devices", "devices", "nobody"),
+    ):
+        check = Check(Run(words, b"", (file,)), Outcome(b"", complained, 4), words[0])
+        yield " ".join(words[:2]), check
+
+
+def too_large_on_the_way():
+    """After the first batch `s` is in `q`, and `t` is still in `s`: so `t` has the rule of `q` beside
+    its own, which neither policy puts together."""
+    groups = "group q\ndeny .*b........\ngroup o\ngroup x\ngroup y in x\ngroup z in y\n"
+    texts = [
+        f"{groups}group s in {above}\nuser t in {parent}\ndeny .*a........\n"
+        + "".join(f"user u{user} in {others}\n" for user in range(80))
+        for above, parent, others in (("o", "s", "o"), ("q", "z", "y"))
+    ]
+    files = [File(name, text.encode(), 0o600) for name, text in zip(("old", "new"), texts)]
+    told = b"batch 1: refused 11 TooManyStates user t\n"
+    run = Run(("diff", "--edits", "old", "new"), b"", tuple(files))
+    return Check(run, Outcome(told, b"", 1), "diff --edits")

@@ -5,74 +5,15 @@ writes."""
 import functools
 import os
 import pathlib
-import subprocess
 import tempfile
 
-from cases import Case, Check, Outcome, Play, Wrong
 from tac_plus.comparing import Compared
 from tac_plus.drawing import configuration, lines
+from lib.cases import Wrong, cases
+from lib.configurations import compare, run
 
-# What is told of something that was left out ends so.
-LEFT_OUT = (
-    ": left out", "reading is left out", "is left out and denied", "is denied from here on",
-)
-LONGEST_RUN = 300
 # How many configurations are drawn, so many for a case, and how many lines of each are compared.
 DRAWN, TOGETHER, LINES = 40, 5, 60
-
-
-def read_import(path, name):
-    """The one case of a configuration NAME.conf: its policy is NAME.policy, what is told of it
-    NAME.remarks, and its devices NAME.devices, where such a file is there. The policy passes a
-    check."""
-    play = Play(lambda program: act(program, path))
-    yield Case(name, [Check(play, Outcome(b"", b"", 0), "the import")])
-
-
-def cases(name):
-    """Each case of this file, with the name of the function that plays it."""
-    for play in (
-        names_that_are_made_up,
-        groups_beyond_the_last,
-        users_beyond_the_last,
-        as_many_rules,
-        as_many_blocks,
-        as_many_lines_about_services,
-        as_many_hosts,
-        hosts_without_a_key,
-        the_longest_patterns,
-        the_deepest_parentheses,
-        the_longest_words,
-        the_longest_file,
-        many_long_rules,
-        many_remarks,
-        keys_are_written,
-        keys_of_each_length,
-        keys_that_are_not_written,
-    ):
-        yield case(f"{name}: {play.__name__}", play)
-    for first in range(0, DRAWN, TOGETHER):
-        play = functools.partial(drawn_configurations, first)
-        yield case(f"{name}: drawn_configurations, from {first} on", play)
-
-
-def case(name, play):
-    return Case(name, [Check(Play(play), Outcome(b"", b"", 0), "the import")])
-
-
-def drawn_configurations(first, program):
-    """What a policy says of users, groups and lines, and what is told, is what the reference finds. Of
-    most lines it is compared."""
-    count = 0
-    with tempfile.TemporaryDirectory(prefix="tacd-test-") as folder:
-        for number in range(first, first + TOGETHER):
-            compared = Compared(program, folder, configuration(f"tests-{number}", "of-"))
-            compared.compare(lines(f"tests-{number}", compared.meaning, LINES))
-            count += compared.lines_compared
-            if compared.found:
-                raise Wrong(f"{compared.text}\nis imported so that:\n{compared.found}")
-    if count < TOGETHER * LINES * 2 // 3:
-        raise Wrong(f"only {count} lines could be compared")
 
 
 def names_that_are_made_up(program):
@@ -471,34 +412,22 @@ def made(program, text, policy, devices, told, status):
             compare("the devices' check", 0, run(program, folder, "devices", "devices").returncode)
 
 
-def act(program, path):
+@cases
+def drawn_configurations():
+    """What a policy says of users, groups and lines, and what is told, is what the reference finds. Of
+    most lines it is compared."""
+    for first in range(0, DRAWN, TOGETHER):
+        yield f"from {first} on", functools.partial(are_as_the_reference_says, first)
+
+
+def are_as_the_reference_says(first, program):
+    count = 0
     with tempfile.TemporaryDirectory(prefix="tacd-test-") as folder:
-        folder = pathlib.Path(folder)
-        (folder / path.name).write_bytes(path.read_bytes())
-        ran = run(program, folder, "import", "--devices-to", "devices", path.name)
-        told = stored(path, ".remarks")
-        compare("the policy", stored(path, ".policy"), ran.stdout)
-        compare("what is told", told, ran.stderr)
-        compare("the devices", stored(path, ".devices"), (folder / "devices").read_bytes())
-        left_out = any(line.endswith(LEFT_OUT) for line in told.decode().splitlines())
-        compare("the status", 5 if left_out else 0, ran.returncode)
-        (folder / "policy").write_bytes(ran.stdout)
-        compare("the check", 0, run(program, folder, "check", "policy").returncode)
-
-
-def run(program, folder, *words, umask=-1):
-    return subprocess.run(
-        ["tacd", *words], executable=program, cwd=folder, capture_output=True, timeout=LONGEST_RUN,
-        umask=umask,
-    )
-
-
-def stored(path, suffix):
-    """The content of the file beside a configuration, which is empty where there is none."""
-    beside = path.with_suffix(suffix)
-    return beside.read_bytes() if beside.is_file() else b""
-
-
-def compare(what, wanted, came):
-    if wanted != came:
-        raise Wrong(f"{what}: {came!r} came, and {wanted!r} is stored")
+        for number in range(first, first + TOGETHER):
+            compared = Compared(program, folder, configuration(f"tests-{number}", "of-"))
+            compared.compare(lines(f"tests-{number}", compared.meaning, LINES))
+            count += compared.lines_compared
+            if compared.found:
+                raise Wrong(f"{compared.text}\nis imported so that:\n{compared.found}")
+    if count < TOGETHER * LINES * 2 // 3:
+        raise Wrong(f"only {count} lines could be compared")

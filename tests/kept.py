@@ -1,6 +1,6 @@
-"""What a server keeps in files and takes from them: edits that are on the disk before their answer comes,
-wherever the server is killed and whatever the disk refuses; policies of many megabytes; devices that are
-read again and again; and the files that an import writes. Each case is a function, as in served.py."""
+"""What a server keeps in files and takes from them: edits that are on the disk before their answer
+comes, wherever the server is killed and whatever the disk refuses; policies of many megabytes; devices
+that are read again and again; and the files that an import writes."""
 
 import contextlib
 import errno
@@ -10,49 +10,17 @@ import stat
 import subprocess
 import tempfile
 
-from called import asks, replace
-from cases import Case, Check, Outcome, Play
-from judged import FDATASYNC, FLOCK, FSYNC, OPENAT, RENAME, SENDTO, UNLINK, WRITE, Judged
-from operated import (
-    FIRST,
-    NO_ROOM,
-    Keeping,
-    Operator,
-    attended,
-    isnt_begun,
-    leads,
-    starts,
-    stops,
-    told,
-    writes,
-)
-from served import LONGEST_WAIT, POLICY, Server, require, typed
+from lib.cases import LONGEST_WAIT, require
+from lib.consoles import Operator, attended, stops, told, typed
+from lib.judged import FDATASYNC, FLOCK, FSYNC, OPENAT, RENAME, SENDTO, UNLINK, WRITE, Judged
+from lib.keeping import FIRST, NO_ROOM, Keeping, isnt_begun, leads, writes
+from lib.listed import asks, put_devices
+from lib.servers import POLICY, Server, starts
 
 DRAFT, KEPT = ".kept.tacd-draft", "kept"
 SYNCS = (FSYNC, FDATASYNC)
 PERMITTED = "permitted by group ops rule 1"
 SERVED = "tacd: {}: served in place of policy, since it has edits of the console; 'reload' takes that again\n"
-
-
-def cases(name):
-    """Each case of this file, with the name of the function that plays it."""
-    for play in (
-        on_the_disk_before_it_is_answered,
-        a_disk_that_refuses,
-        a_removal_that_the_disk_refuses,
-        killed_while_it_keeps_an_edit,
-        killed_while_it_reloads,
-        what_comes_to_the_drafts_name,
-        a_draft_that_somebody_reads,
-        a_link_is_no_place_for_edits,
-        policies_of_many_megabytes,
-        edits_that_are_kept_while_another_server_begins,
-        devices_are_read_again_and_again,
-        files_that_an_import_writes,
-        files_that_an_import_cannot_write,
-    ):
-        expected = Outcome(b"", b"", 0)
-        yield Case(f"{name}: {play.__name__}", [Check(Play(play), expected, "the server kept files")])
 
 
 @contextlib.contextmanager
@@ -130,6 +98,17 @@ def tells_kept(operator, wanted):
     require(came == wanted, f"it tells that edits are kept by {came}")
 
 
+# What is done with the disk when it refuses, the error, and whether the edit is in the file then.
+REFUSALS = (
+    (f"open {DRAFT}", errno.ENOSPC, False),
+    (f"write {DRAFT}", errno.ENOSPC, False),
+    (f"sync {DRAFT}", errno.EIO, False),
+    (f"rename {DRAFT} {KEPT}", errno.EIO, False),
+    ("open .", errno.EMFILE, True),
+    ("sync .", errno.EIO, True),
+)
+
+
 def a_disk_that_refuses(program):
     """Whatever it refuses is told before the answer. What was kept before stays, no draft takes room, and
     with the next answer it is tried again."""
@@ -144,24 +123,17 @@ def a_disk_that_refuses(program):
         kept, lines = path / KEPT, FIRST.replace("; ", "\n")
         told(operator, ("add user u", "ok"))
         lines += "user u\n"
-        for number, (done, error, is_there) in enumerate((
-            (f"open {DRAFT}", errno.ENOSPC, False),
-            (f"write {DRAFT}", errno.ENOSPC, False),
-            (f"sync {DRAFT}", errno.EIO, False),
-            (f"rename {DRAFT} {KEPT}", errno.EIO, False),
-            ("open .", errno.EMFILE, True),
-            ("sync .", errno.EIO, True),
-        )):
+        for number, (done, error, is_there) in enumerate(REFUSALS):
             refusals.append((done, error))
             why = f"{os.strerror(error)} (os error {error})"
             told(operator, (f"add user u{number}", f"not kept: {why}\nok"))
             said += BEGINS.format(kept, why) + IS_OVER.format(kept)
-            tells_kept(operator, "0")
+            tells_kept(operator, 0)
             more = f"{lines}user u{number}\n"
             require(kept.read_text() == (more if is_there else lines), f"after {done} it isn't as before")
             require(not (path / DRAFT).exists(), f"after {done} a draft takes room")
             told(operator, ("why bob show run", PERMITTED))
-            tells_kept(operator, "1")
+            tells_kept(operator, 1)
             lines = more
             require(kept.read_text() == lines, f"after {done} it isn't tried again")
             require(not (path / DRAFT).exists(), "the draft is still there")
@@ -181,12 +153,12 @@ def a_removal_that_the_disk_refuses(program):
     with folder() as path, Keeper(path, judge).keeping(program) as (server, operator):
         why, kept = "Input/output error (os error 5)", path / KEPT
         told(operator, ("add user eve", f"not kept: {why}\nok"), ("reload", f"not kept: {why}\nok"))
-        tells_kept(operator, "0")
+        tells_kept(operator, 0)
         told(operator, ("why bob show run", PERMITTED))
         require(len(refused) == 3, "it isn't tried again")
-        tells_kept(operator, "0")
+        tells_kept(operator, 0)
         told(operator, ("why bob show run", PERMITTED))
-        tells_kept(operator, "1")
+        tells_kept(operator, 1)
         stops(server, operator, BEGINS.format(kept, why) + IS_OVER.format(kept))
 
 
@@ -332,7 +304,7 @@ def policies_of_many_megabytes(program):
             server.process.kill()
         with attended(program, *words, policy=LONG) as server, Operator(server) as operator:
             require((came := typed(program, server, "policy")) == whole, f"{len(came)} bytes are printed")
-            require(operator.numbers()["tacd_serves_edits"] == "1", "it tells that FILE is served")
+            require(operator.numbers()["tacd_serves_edits"] == 1, "it tells that FILE is served")
             stops(server, operator, SERVED.format(path / KEPT))
 
 
@@ -368,7 +340,7 @@ def devices_are_read_again_and_again(program):
     more = {"key": ("--devices", "devices"), "devices": text.format(keys[0])}
     with attended(program, **more) as server, Operator(server) as operator:
         for turn in (1, 2, 1, 1, 0, 2, 0):
-            replace(server, text.format(keys[turn]))
+            put_devices(server, text.format(keys[turn]))
             told(operator, ("reload devices", "devices ok: 1 devices, 1 prefixes"))
             for key in keys:
                 came = asks(server, "127.0.0.1", key.encode())
@@ -377,7 +349,7 @@ def devices_are_read_again_and_again(program):
             (LONGEST, "devices ok: 1 devices, 1 prefixes"),
             (LONGEST + 1, f"devices unread devices: it is over {LONGEST} bytes long"),
         ):
-            replace(server, f"#\n{text.format(keys[1])}".rjust(length, "#"))
+            put_devices(server, f"#\n{text.format(keys[1])}".rjust(length, "#"))
             told(operator, ("reload devices", wanted))
         told(operator, ("quit", "ok"))
         server.process.communicate(timeout=LONGEST_WAIT)  # it says which packets fit no key

@@ -1,10 +1,11 @@
 """What the documents say may be as long, as large or as many: over a thousand connections of one
 worker, and what they cost; packet memory to its last byte; the longest first packets; thousands of
 records; full policies, devices' files and tables; and edits that are no more, and take no longer, than
-they need. Each case is a function, as in served.py, or a run of the program, as in generated.py."""
+they need."""
 
 import bisect
 import contextlib
+import functools
 import hashlib
 import pathlib
 import random
@@ -12,72 +13,32 @@ import re
 import resource
 import time
 
-from called import BOTH_KEYS, NEW, OLD, PASSED, asks, serving
-from cases import Case, Check, File, Outcome, Play, Run, Wrong, replay_check
-from generated import STORED as STORED_IN_CLEAR, asked, opened, record, tally_line
-from notation import spelled_out
-from operated import Operator, attended, starts, told
-from proxied import called, clear, line as header
-from reviewed import reviewed
-from served import (
+from lib.cases import LONGEST_WAIT, Check, File, Outcome, Run, Wrong, cases, replay_check, require
+from lib.consoles import Operator, attended, told, typed, types
+from lib.devices import (
     ASK,
     CLOSING,
     KEPT,
-    LONGEST_WAIT,
+    PASSED,
     PERMITTED,
     RECORD,
     STORED,
-    Server,
     answer,
     connect,
     is_answered,
     is_closed,
     packet,
-    require,
-    typed,
-    types,
 )
+from lib.listed import BOTH_KEYS, NEW, OLD, asks, serving
+from lib.notation import spelled_out
+from lib.proxies import called, clear, line as header
+from lib.reviewing import reviewed
+from lib.scripted import STORED as STORED_IN_CLEAR, asked, opened, record, tally_line
+from lib.servers import Server, starts
 
 # What a policy may have, and a devices' file.
 SUBJECTS, RULES, LINES = 1024, 256, 64
 DEVICES, PREFIXES = 4096, 16384
-
-
-def cases(name):
-    """Each case of this file, with the name of the function that plays it."""
-    for play in (
-        over_a_thousand_connections_of_a_worker,
-        over_a_thousand_first_packets,
-        a_connection_of_many_packets,
-        the_end_awaits_a_first_packet,
-        so_many_headers_of_a_proxy,
-        packet_memory_to_its_last_byte,
-        the_longest_first_packets,
-        a_long_line_at_standard_input,
-        the_latest_of_many_records,
-        a_reload_of_all_subjects,
-        all_devices_are_read_again,
-        all_rules_are_counted,
-        no_more_edits_than_needed,
-        no_more_services_than_needed,
-        no_more_moves_than_needed,
-        an_edit_concerns_few,
-        those_of_the_same_rules_are_one,
-        services_that_stay_are_not_asked,
-    ):
-        expected = Outcome(b"", b"", 0)
-        yield Case(f"{name}: {play.__name__}", [Check(Play(play), expected, "its devices called")])
-    for make in (
-        tallies_of_a_group,
-        many_records,
-        automata_of_many_states,
-        lint_of_a_full_policy,
-        lint_of_refused_policies,
-        tables,
-        remarks_on_devices,
-    ):
-        for part, check in make():
-            yield Case(f"{name}: {make.__name__}, {part}", [check])
 
 
 def may_open(count):
@@ -146,22 +107,24 @@ def all_is_read(server):
 
 def in_time(play):
     """Plays what a device has ten seconds for, and again, five times in all, where this machine took longer."""
-    for trials_left in reversed(range(5)):
-        began = time.monotonic()
-        try:
-            return play()
-        except Wrong:
-            if time.monotonic() < began + 9 or not trials_left:
-                raise
+
+    @functools.wraps(play)
+    def plays(program):
+        for trials_left in reversed(range(5)):
+            began = time.monotonic()
+            try:
+                return play(program)
+            except Wrong:
+                if time.monotonic() < began + 9 or not trials_left:
+                    raise
+
+    return plays
 
 
+@in_time
 def over_a_thousand_first_packets(program):
     """The one worker awaits all of them, to see which key each has."""
     may_open(8192)
-    in_time(lambda: await_first_packets(program))
-
-
-def await_first_packets(program):
     keys = (OLD, NEW) * (COUNT // 2)
     with serving(program, BOTH_KEYS, *CROWDED) as server, contextlib.ExitStack() as stack:
         devices = [stack.enter_context(connect(server)) for _ in keys]
@@ -190,13 +153,10 @@ def a_connection_of_many_packets(program):
         server.quits()
 
 
+@in_time
 def the_end_awaits_a_first_packet(program):
     """A worker that has served as many connections as it is to, but for one whose first packet isn't
     whole, serves that one too."""
-    in_time(lambda: end_after_a_first_packet(program))
-
-
-def end_after_a_first_packet(program):
     words = {"key": ("--devices", "devices"), "devices": BOTH_KEYS}
     options = ("--no-console", "--workers", "1", "--connections", "2")
     with Server(program, *options, **words) as server, connect(server) as device:
@@ -211,13 +171,10 @@ def end_after_a_first_packet(program):
         server.ends()
 
 
+@in_time
 def so_many_headers_of_a_proxy(program):
     """As many are awaited as there may be connections. One more is closed, and counted as one too
     many, until one of them is whole."""
-    in_time(lambda: await_headers(program))
-
-
-def await_headers(program):
     devices = f"{BOTH_KEYS}device inside\nat 192.0.2.1\ntls\n"
     options = ("--workers", "1", "--connections-at-once", "3", "--per-address", "0")
     head, wanted = header("192.0.2.1"), clear(PERMITTED)
@@ -405,7 +362,7 @@ def all_rules_are_counted(program):
     with attended(program, policy=policy) as server, Operator(server) as operator:
         numbers = operator.numbers()
         counted = (numbers["tacd_subjects"], numbers["tacd_rules"])
-        require(counted == ("4", str(4 * RULES)), f"it counts {counted}")
+        require(counted == (4, 4 * RULES), f"it counts {counted}")
         told(operator, ("quit", "ok"))
         server.ends(is_listening=False)
 
@@ -555,6 +512,7 @@ def service_lines(user, count):
     return "".join(f"service x{user}-{it}\n" for it in range(count))
 
 
+@cases
 def tallies_of_a_group():
     """Of as many users as a policy may have, each with a record."""
     users = [f"u{it}" for it in range(1, SUBJECTS)]
@@ -571,6 +529,7 @@ def replayed(script, printed):
     return replay_check(*(spelled_out(text).encode() for text in (script, printed)))
 
 
+@cases
 def many_records():
     """More than 32,768 of them are listed."""
     count = 33_000
@@ -581,6 +540,7 @@ def many_records():
     yield f"a list of {count}", replayed(script, printed)
 
 
+@cases
 def automata_of_many_states():
     """The rules of each policy have some two thousand, and each line that differs is found."""
     files = [File(it, f"policy 2\nuser bob\ndeny .*{it}.{{10}}\npermit .*\n".encode(), 0o600) for it in "ab"]
@@ -595,6 +555,7 @@ def linted(policy, lines, status):
     return Check(run, Outcome("".join(f"{line}\n" for line in lines).encode(), b"", status), "lint")
 
 
+@cases
 def lint_of_a_full_policy():
     """Of as many subjects and rules as there may be, each is told."""
     policy = "".join(f"user u{it}\n" for it in range(SUBJECTS))
@@ -611,6 +572,7 @@ def lint_of_a_full_policy():
     yield "rules of eight users", linted(several, lines, 5)
 
 
+@cases
 def lint_of_refused_policies():
     """Each line that is wrong is told, and each wrong chain of as many subjects as there may be."""
     heads = [f"user u{it} in " for it in range(SUBJECTS)]
@@ -635,6 +597,7 @@ def lint_of_refused_policies():
     yield "wrong lines", linted("usr x\n" * 5000, lines, 1)
 
 
+@cases
 def tables():
     """Five thousand questions and cases, of which each is answered, or isn't so."""
     policy = File("policy", b"group ops\npermit show .*\nuser bob in ops\n", 0o600)
@@ -654,6 +617,7 @@ def tables():
         yield f"cases {word}", Check(run, Outcome(printed.encode(), b"", status), "test")
 
 
+@cases
 def remarks_on_devices():
     """Of as many devices as there may be, each with the same short key, and the same name."""
     text = "".join(device(it, 1, "k") + "tls one\n" for it in range(DEVICES))

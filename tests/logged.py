@@ -1,5 +1,5 @@
-"""What `serve --log` writes of a console and of several devices, and what of a device it answers while the
-log takes no line. Clocks and failures are those of judged.py. Each case is a function, as in served.py."""
+"""What `serve --log` writes of a console and of several devices, and what of a device it answers while
+the log takes no line. Clocks and failures are those of lib/judged.py."""
 
 import errno
 import json
@@ -8,27 +8,25 @@ import pathlib
 import stat
 import threading
 
-from cases import Case, Check, Outcome, Play
-from counted import FAILS, FULL, counting, exchanged, is_of_log, logged
-from judged import CLOCK_GETTIME, REAL_TIME, WRITE, Clock, Judged
-from operated import starts, stops, told
-from served import (
+from lib.cases import LONGEST_WAIT, require
+from lib.consoles import stops, told
+from lib.counting import FAILS, FULL, counting, is_of_log
+from lib.devices import (
     ASK,
     KEPT,
     LOGIN,
-    LONGEST_WAIT,
     NAME_WANTED,
     PERMITTED,
     RECORD,
     STORED,
-    Server,
-    answer,
     connect,
+    exchanged,
     is_answered,
     is_closed,
     packet,
-    require,
 )
+from lib.judged import REAL_TIME, WRITE, Clock, Judged
+from lib.servers import Server, device_events, starts
 
 # So many bytes of an answer are told, after its secrets are hidden.
 MOST_TOLD = 4096
@@ -94,25 +92,6 @@ PASSWORD_WANTED = "c0010400.00000001.00000010.0501000a0000'Password: '"
 PASSWORD = "c0010500.00000001.0000000e.0009000000'blue-lake'"
 PASSED = "c0010600.00000001.00000006.010000000000"
 DEVICES, TIMES = 8, 25
-
-
-def cases(name):
-    """Each case of this file, with the name of the function that plays it."""
-    for play in (
-        secrets_are_hidden,
-        secrets_of_a_policy_are_hidden,
-        answers_are_cut,
-        each_line_by_one_write,
-        lines_of_several_workers,
-        a_log_that_fills_up,
-        questions_need_no_log,
-        questions_need_no_clock,
-        the_last_moment_of_a_leap_day,
-        a_folder_is_no_log,
-        a_log_that_others_read,
-    ):
-        expected = Outcome(b"", b"", 0)
-        yield Case(f"{name}: {play.__name__}", [Check(Play(play), expected, "it was logged")])
 
 
 def events(server):
@@ -217,7 +196,7 @@ def lines_of_several_workers(program):
                 thread.join()
             require(not failed, "a request isn't answered so")
             counts = {}
-            for event in logged(server):
+            for event in device_events(server):
                 require(event["line"] == "show version", f"the log has {event}")
                 counts[event["device"]] = counts.get(event["device"], 0) + 1
             require(list(counts.values()) == [TIMES] * DEVICES, f"the log has so many lines: {counts}")
@@ -242,7 +221,7 @@ def a_log_that_fills_up(program):
                     require(is_answered(device, sent, wanted), f"{sent} isn't answered so")
                 for sent, _, _ in REQUESTS[room:]:
                     require(not exchanged(device, sent), f"{sent} is answered without a line")
-            came = [(event["type"], event["status"]) for event in logged(server)]
+            came = [(event["type"], event["status"]) for event in device_events(server)]
             require(came == [it for _, _, it in REQUESTS[:room]], f"the log has {came}")
             stops(server, operator, FAILS.format(FULL))
 
@@ -283,7 +262,7 @@ def questions_need_no_clock(program):
             require(asked_twice(device), "it isn't asked")
             device.sendall(packet(PASSWORD))
             require(is_closed(device, LONGEST_WAIT), "it is answered")
-        require(logged(server) == [], f"the log has {logged(server)}")
+        require(device_events(server) == [], f"the log has {device_events(server)}")
         clock.is_lost = False
         with connect(server) as device:
             require(asked_twice(device), "it isn't asked again")
@@ -298,7 +277,7 @@ def the_last_moment_of_a_leap_day(program):
             for milliseconds in (1_709_251_199_999, 1_709_251_200_000):
                 clock.since_1970 = milliseconds * 1_000_000
                 require(is_answered(device, ASK, PERMITTED, flag=KEPT), "bob isn't permitted")
-        came = [event["time"] for event in logged(server)]
+        came = [event["time"] for event in device_events(server)]
         require(came == ["2024-02-29T23:59:59.999Z", "2024-03-01T00:00:00.000Z"], f"it was {came}")
         stops(server, operator)
 

@@ -1,81 +1,23 @@
 """Consoles of servers, at standard input and at a socket: what lines are answered and what of them is
-logged, what operators are told who share a console, edits that outlive their server, and how it is.
-Each case is a function, as in served.py."""
+logged, what operators are told who share a console, edits that outlive their server, and how it is."""
 
 import contextlib
 import errno
-import json
 import os
 import pathlib
 import signal
 import socket
-import subprocess
 import tempfile
 import time
 
-from cases import Case, Check, Outcome, Play, Wrong
-from served import (
-    ASK,
-    BLANK,
-    DENIED,
-    FDATASYNC,
-    KEPT,
-    LONGEST_WAIT,
-    OPENAT,
-    POLICY,
-    RECORD,
-    SOON,
-    STORED,
-    Server,
-    Supervised,
-    account,
-    answer,
-    connect,
-    is_answered,
-    packet,
-    ready,
-    require,
-    typed,
-    types,
-)
+from lib.cases import LONGEST_WAIT, SOON, comes_to, require
+from lib.consoles import Operator, asks_all, attended, stops, told, typed, types
+from lib.devices import ASK, DENIED, KEPT, RECORD, STORED, account, answer, connect, is_answered, packet
+from lib.judged import FDATASYNC, OPENAT, Supervised
+from lib.keeping import FIRST, NO_ROOM, Keeping, isnt_begun, leads, writes
+from lib.servers import BLANK, POLICY, Server, events, ready, replace, starts
 
 ONE = "device one\nat 192.0.2.1\nkey wintry-tundra-ridge-41\n"
-
-
-def cases(name):
-    """Each case of this file, with the name of the function that plays it."""
-    for play in (
-        what_lines_are_answered,
-        many_lines,
-        how_an_input_ends,
-        other_policies,
-        users_who_are_gone,
-        a_policy_of_nobody,
-        files_of_any_name,
-        other_devices,
-        no_memory_for_devices,
-        an_input_that_fails,
-        an_output_that_fails,
-        logged_before_it_is_answered,
-        answered_where_the_log_fails,
-        operators_who_share_a_console,
-        a_service_that_is_refused,
-        a_place_that_is_taken,
-        eight_operators,
-        a_busy_console,
-        how_a_server_is,
-        what_is_counted,
-        records_are_counted,
-        no_room_for_records,
-        edits_are_kept,
-        a_store_that_is_full,
-        what_is_no_place_for_edits,
-        what_becomes_no_place_for_edits,
-        what_lies_beside,
-        one_server_to_a_file,
-    ):
-        expected = Outcome(b"", b"", 0)
-        yield Case(f"{name}: {play.__name__}", [Check(Play(play), expected, "its console was used")])
 
 
 def exchanges(talk):
@@ -90,25 +32,6 @@ def exchanges(talk):
         else:
             told[-1][1].append(line)
     return told
-
-
-def starts(server):
-    came = server.process.stdout.readline().decode()
-    require(came == f"listening {server.address[1]}\n", f"it says {came!r}")
-
-
-def replace(server, name, lines):
-    """A file of the server has these lines, which `; ` parts, or is gone."""
-    path = pathlib.Path(server.folder.name, name)
-    if lines:
-        path.touch(0o600)
-        path.write_text("".join(f"{line}\n" for line in lines.split("; ")))
-    else:
-        path.unlink()
-
-
-def events(server):
-    return list(map(json.loads, pathlib.Path(server.folder.name, "log").read_text().splitlines()))
 
 
 def converses(program, talk, *options, complained="", **more):
@@ -420,13 +343,10 @@ def how_an_input_ends(program):
             server.ends(typed, answers)
 
 
-def other_policies(program):
-    """What differs is told for each user, those of the new policy in its order, and those who are gone
-    last. Where none may stand nothing changes, and only one that is too large is a call, after the
-    question for the present one. An open batch stays, and is judged on the policy that there is at its
-    `commit`."""
-    converses(
-        program,
+GONE = "tacd: policy: {} of {} users are gone\n"
+# Other policies are loaded, and what standard error says of it.
+RELOADS = (
+    (
         """
         < group ops; permit ping; user bob in ops
         > reload
@@ -454,9 +374,9 @@ def other_policies(program):
         > rotate
         rotated 0 entries 9
         """,
-    )
-    converses(
-        program,
+        "",
+    ),
+    (
         """
         < group ops; permit show .*; deny (; user bob in ops
         > reload
@@ -482,9 +402,9 @@ def other_policies(program):
         > rotate
         rotated 1 entries 4
         """,
-    )
-    converses(
-        program,
+        "",
+    ),
+    (
         """
         > begin
         ok
@@ -520,107 +440,110 @@ def other_policies(program):
         > rotate
         rotated 0 entries 7
         """,
-        complained=GONE.format(1, 1) * 2,
-    )
+        GONE.format(1, 1) * 2,
+    ),
+)
 
 
-GONE = "tacd: policy: {} of {} users are gone\n"
+def other_policies(program):
+    """What differs is told for each user, those of the new policy in its order, and those who are gone
+    last. Where none may stand nothing changes, and only one that is too large is a call, after the
+    question for the present one. An open batch stays, and is judged on the policy that there is at its
+    `commit`."""
+    for talk, complained in RELOADS:
+        converses(program, talk, complained=complained)
+
+
+FEWER_AND_FEWER = """
+    < user a; user b; user c; user d; user bob
+    > reload
+    ok
+    |user bob now denies: show |
+    < user a; user b; user e; user g; user h
+    > reload
+    ok
+    3 of 5 users are gone
+    < user a; user b; user e; user i; user j; user k; user l
+    > reload
+    ok
+    < user a; user b; user e; user m; group i; group j; group k; group l
+    > reload
+    ok
+    4 of 7 users are gone
+    < user b; user m; group a; group e; permit x; user n in e
+    > reload
+    ok
+    user n now permits: x
+    < user o; deny .*a..............
+    > reload
+    fault TooManyStates user o
+    < user n; user x; permit x
+    > reload
+    ok
+    user n now denies: x
+    user x now permits: x
+    2 of 3 users are gone
+    """
 
 
 def users_who_are_gone(program):
     """Where fewer than half of the users are there still, by name, a reload says so last, and standard
     error too: not at half. A group of a user's name is no user, and new users don't count."""
-    converses(
-        program,
-        """
-        < user a; user b; user c; user d; user bob
-        > reload
-        ok
-        |user bob now denies: show |
-        < user a; user b; user e; user g; user h
-        > reload
-        ok
-        3 of 5 users are gone
-        < user a; user b; user e; user i; user j; user k; user l
-        > reload
-        ok
-        < user a; user b; user e; user m; group i; group j; group k; group l
-        > reload
-        ok
-        4 of 7 users are gone
-        < user b; user m; group a; group e; permit x; user n in e
-        > reload
-        ok
-        user n now permits: x
-        < user o; deny .*a..............
-        > reload
-        fault TooManyStates user o
-        < user n; user x; permit x
-        > reload
-        ok
-        user n now denies: x
-        user x now permits: x
-        2 of 3 users are gone
-        """,
-        complained=GONE.format(3, 5) + GONE.format(4, 7) + GONE.format(2, 3),
-    )
+    complained = GONE.format(3, 5) + GONE.format(4, 7) + GONE.format(2, 3)
+    converses(program, FEWER_AND_FEWER, complained=complained)
+
+
+NOBODY_AFTER_BOB = """
+    < # nobody
+    > reload
+    fault NoUser
+    < policy 2
+    > reload
+    fault NoUser
+    < group bob; permit show .*; group ops in bob
+    > reload
+    fault NoUser
+    > why bob show x
+    permitted by group ops rule 1
+    > rotate
+    rotated 0 entries 4
+    > remove user bob
+    ok
+    |user bob now denies: show |
+    > reload
+    ok
+    < user bob
+    > reload
+    ok
+    < group bob
+    > reload
+    fault NoUser
+    > rotate
+    rotated 1 entries 6
+    """
+NOBODY_AT_FIRST = """
+    > reload
+    ok
+    < group ops
+    > reload
+    ok
+    < user bob
+    > reload
+    ok
+    < group ops
+    > reload
+    fault NoUser
+    """
 
 
 def a_policy_of_nobody(program):
     """It isn't taken where the present policy has a user: everyone would be denied, and no device would
     go on to its own users. Where that has none either it is, as at the start, which standard error
     tells."""
-    converses(
-        program,
-        """
-        < # nobody
-        > reload
-        fault NoUser
-        < policy 2
-        > reload
-        fault NoUser
-        < group bob; permit show .*; group ops in bob
-        > reload
-        fault NoUser
-        > why bob show x
-        permitted by group ops rule 1
-        > rotate
-        rotated 0 entries 4
-        > remove user bob
-        ok
-        |user bob now denies: show |
-        > reload
-        ok
-        < user bob
-        > reload
-        ok
-        < group bob
-        > reload
-        fault NoUser
-        > rotate
-        rotated 1 entries 6
-        """,
-    )
+    converses(program, NOBODY_AFTER_BOB)
     nobody = "tacd: policy: the policy has no user: nobody can log in\n"
     for policy in ("", "# nobody\n", "group bob\npermit show .*\n"):
-        converses(
-            program,
-            """
-            > reload
-            ok
-            < group ops
-            > reload
-            ok
-            < user bob
-            > reload
-            ok
-            < group ops
-            > reload
-            fault NoUser
-            """,
-            complained=nobody,
-            policy=policy,
-        )
+        converses(program, NOBODY_AT_FIRST, complained=nobody, policy=policy)
 
 
 def files_of_any_name(program):
@@ -645,43 +568,42 @@ def files_of_any_name(program):
         server.ends("quit\n", is_listening=False)
 
 
+OTHER_DEVICES = """
+    > begin
+    ok
+    > insert group ops 1 deny show .*
+    kept 1
+    << device core-1; at 192.0.2.1; at 2001:db8::1; key wintry-tundra-ridge-41; device access; at 192.0.2.128/25; key short
+    > reload devices
+    devices ok: 2 devices, 3 prefixes
+    << device one; key fjord; ; at 192.0.2.1/24
+    > reload devices
+    devices fault line 4 4 BadPrefix
+    << device one; at ::1
+    > reload devices
+    devices fault line 1 8 NoKey
+    |<< |
+    > reload devices
+    devices unread devices: No such file or directory (os error 2)
+    > insert group ops 1 permit ping
+    kept 2
+    > commit
+    ok
+    user bob now permits: ping
+    |user bob now denies: show |
+    > rotate
+    rotated 0 entries 1
+    """
+
+
 def other_devices(program):
     """Whatever comes of the file, it is no call, and a batch stays open. Standard error says why it is
     refused."""
     bits = "line 4 column 4: bits are set after the first 24: is '192.0.2.0/24' meant, or '192.0.2.1'?"
     lacks = "line 1 column 1: this device has neither 'key' nor 'tls', or an 'old-key' and no 'key'"
-    converses(
-        program,
-        """
-        > begin
-        ok
-        > insert group ops 1 deny show .*
-        kept 1
-        << device core-1; at 192.0.2.1; at 2001:db8::1; key wintry-tundra-ridge-41; device access; at 192.0.2.128/25; key short
-        > reload devices
-        devices ok: 2 devices, 3 prefixes
-        << device one; key fjord; ; at 192.0.2.1/24
-        > reload devices
-        devices fault line 4 4 BadPrefix
-        << device one; at ::1
-        > reload devices
-        devices fault line 1 8 NoKey
-        |<< |
-        > reload devices
-        devices unread devices: No such file or directory (os error 2)
-        > insert group ops 1 permit ping
-        kept 2
-        > commit
-        ok
-        user bob now permits: ping
-        |user bob now denies: show |
-        > rotate
-        rotated 0 entries 1
-        """,
-        complained="".join(f"tacd: devices: {told}\n" for told in (bits, lacks)),
-        key=("--devices", "devices"),
-        devices=ONE,
-    )
+    complained = "".join(f"tacd: devices: {told}\n" for told in (bits, lacks))
+    named = {"key": ("--devices", "devices"), "devices": ONE}
+    converses(program, OTHER_DEVICES, complained=complained, **named)
 
 
 def no_memory_for_devices(program):
@@ -722,7 +644,7 @@ def an_output_that_fails(program):
     more = {"output": theirs, "before": unsignalled}
     with ours, theirs, Server(program, "--workers", "3", **more) as server, connect(server):
         came = ours.makefile().readline()
-        require(came == f"listening {server.address[1]}\n", f"it says {came!r}")
+        require([came] == server.listening, f"it says {came!r}")
         # Whoever else has it by now, as a process that another case begins.
         ours.shutdown(socket.SHUT_RDWR)
         began = time.monotonic()
@@ -762,75 +684,26 @@ def answered_where_the_log_fails(program):
         server.ends("quit\n", complained=f"tacd: log: {why}\n", is_listening=False)
 
 
-class Operator:
-    """Somebody at the socket."""
-
-    def __init__(self, server, place="console"):
-        self.stream = socket.socket(socket.AF_UNIX)
-        self.stream.settimeout(LONGEST_WAIT)
-        self.stream.connect(os.path.join(server.folder.name, place))
-        self.lines = self.stream.makefile("r")
-        self.first = self.heard()
-
-    def __enter__(self):
-        return self
-
-    def __exit__(self, *_):
-        self.lines.close()
-        self.stream.close()
-
-    def heard(self):
-        """The next answer, or None where the session has ended."""
-        answer = ""
-        try:
-            while (line := self.lines.readline()) != "\n":
-                if not line:
-                    return None
-                answer += line
-        except TimeoutError:
-            raise Wrong("an operator isn't answered") from None
-        return answer.removesuffix("\n")
-
-    def type(self, line):
-        self.stream.sendall(f"{line}\n".encode())
-
-    def ask(self, line):
-        self.type(line)
-        return self.heard()
-
-    def numbers(self):
-        """What `status` tells of each name."""
-        lines = self.ask("status").splitlines()
-        return dict(line.rsplit(" ", 1) for line in lines if not line.startswith("#"))
-
-
-def told(operator, *turns):
-    """Each line of an operator is answered so."""
-    for line, wanted in turns:
-        came = operator.ask(line)
-        require(came == wanted, f"{line} is answered by {came!r}, not {wanted!r}")
-
-
-def attended(program, *options, **more):
-    """A server with its console at a socket, which is there."""
-    server = Server(program, "--console", "console", *options, **more)
-    starts(server)
-    return server
-
-
-def stops(server, operator, complained=""):
-    """It ends once its operator is told so, and its socket is gone."""
-    told(operator, ("quit", "ok"))
-    server.ends(complained=complained, is_listening=False)
-    require(not os.path.lexists(f"{server.folder.name}/console"), "the socket is still there")
-
-
-def comes_to(what, wanted):
-    """Within some seconds."""
-    until = time.monotonic() + LONGEST_WAIT
-    while (came := what()) != wanted:
-        require(time.monotonic() < until, f"it comes to {came!r}, not {wanted!r}")
-        time.sleep(0.01)
+# Who typed each line of those who share a console, as the log has it.
+TYPED_BY = [
+    (None, "why bob ping"),
+    ("anna", "begin"),
+    ("anna", "insert group ops 1 deny ping"),
+    ("ben", "why bob show"),
+    ("ben", "reload devices"),
+    ("ben", "reload"),
+    ("ben", "rotate"),
+    ("ben", "nonsense"),
+    ("anna", "commit"),
+    ("ben", "drop group ops 1"),
+    (None, "begin"),
+    (None, "insert group ops 1 deny show .*"),
+    (None, "abandon"),
+    ("ben", "begin"),
+    ("ben", "abandon"),
+    ("ben", "why bob show x"),
+    ("anna", "quit"),
+]
 
 
 def operators_who_share_a_console(program):
@@ -856,43 +729,10 @@ def operators_who_share_a_console(program):
             told(ben, ("abandon", "ok"), ("why bob show x", "permitted by group ops rule 1"))
             stops(server, anna)
         logged = [(event["operator"], event["console"]) for event in events(server)]
-    wanted = [
-        (None, "why bob ping"),
-        ("anna", "begin"),
-        ("anna", "insert group ops 1 deny ping"),
-        ("ben", "why bob show"),
-        ("ben", "reload devices"),
-        ("ben", "reload"),
-        ("ben", "rotate"),
-        ("ben", "nonsense"),
-        ("anna", "commit"),
-        ("ben", "drop group ops 1"),
-        (None, "begin"),
-        (None, "insert group ops 1 deny show .*"),
-        (None, "abandon"),
-        ("ben", "begin"),
-        ("ben", "abandon"),
-        ("ben", "why bob show x"),
-        ("anna", "quit"),
-    ]
-    require(logged == wanted, f"the log has {logged}")
+    require(logged == TYPED_BY, f"the log has {logged}")
 
 
 REFUSING = "policy 3\n" + POLICY + "user carla\nrefuse junos-exec\n"
-
-
-def asks_all(program, server, lines):
-    """What a client prints of these lines, by a pipe, and how it ends."""
-    ran = subprocess.run(
-        ["tacd", "console", "console"],
-        executable=program,
-        cwd=server.folder.name,
-        input=lines,
-        capture_output=True,
-        text=True,
-        timeout=LONGEST_WAIT,
-    )
-    return ran.stdout, ran.stderr, ran.returncode
 
 
 def a_service_that_is_refused(program):
@@ -943,9 +783,9 @@ def eight_operators(program):
             came = (ninth.first, ninth.heard())
             require(came == ("busy", None), f"a ninth is told {came}")
         told(operators[0], ("shadow", "none"))
-        require(operators[0].numbers()["tacd_operators"] == "8", "there aren't eight")
+        require(operators[0].numbers()["tacd_operators"] == 8, "there aren't eight")
         operators[7].__exit__()
-        comes_to(lambda: operators[0].numbers()["tacd_operators"], "7")
+        comes_to(lambda: operators[0].numbers()["tacd_operators"], 7)
         require(stack.enter_context(Operator(server)).first == "ready", "another isn't let in")
         stops(server, operators[0])
 
@@ -960,7 +800,7 @@ def a_busy_console(program):
         with Operator(server) as first, Operator(server) as second:
             first.type("reload")
             with policy.open("w") as file:  # as soon as the server reads it
-                require(second.numbers()["tacd_operators"] == "2", "there aren't two")
+                require(second.numbers()["tacd_operators"] == 2, "there aren't two")
                 require("rotate" in second.ask("help"), "there is no help")
                 second.type("why bob ping")
                 waits = not ready([first.stream, second.stream], 0.2)
@@ -980,23 +820,23 @@ def how_a_server_is(program):
             before = resident(server)
             numbers = operator.numbers()
             after = resident(server)
-            memory = int(numbers.pop("tacd_memory_bytes"))
+            memory = numbers.pop("tacd_memory_bytes")
             slack = 2_000_000
             around = f"{before} to {after}"
             require(before - slack <= memory <= after + slack, f"it has {memory}, and not {around}")
-            require(int(numbers.pop("tacd_uptime_seconds")) <= LONGEST_WAIT, "it serves too long")
+            require(numbers.pop("tacd_uptime_seconds") <= LONGEST_WAIT, "it serves too long")
             (info,) = (name for name in numbers if name.startswith("tacd_info"))
-            require(info.startswith('tacd_info{version="') and numbers[info] == "1", f"it is {info}")
+            require(info.startswith('tacd_info{version="') and numbers[info] == 1, f"it is {info}")
             wanted = {
-                "tacd_workers": "3",
-                "tacd_connections_limit": "77",
-                "tacd_devices": "2",
-                "tacd_records_limit": "1000000",
-                "tacd_log": "1",
-                "tacd_operators": "1",
-                "tacd_keeps_edits": "1",
-                "tacd_edits_kept": "1",
-                "tacd_serves_edits": "0",
+                "tacd_workers": 3,
+                "tacd_connections_limit": 77,
+                "tacd_devices": 2,
+                "tacd_records_limit": 1_000_000,
+                "tacd_log": 1,
+                "tacd_operators": 1,
+                "tacd_keeps_edits": 1,
+                "tacd_edits_kept": 1,
+                "tacd_serves_edits": 0,
             }
             came = {name: numbers[name] for name in wanted}
             require(came == wanted, f"it tells {came}")
@@ -1042,7 +882,7 @@ DONE = (
 
 def counts(operator):
     numbers = operator.numbers()
-    return " ".join(numbers[f"tacd_{name}"] for name in COUNTED)
+    return " ".join(str(numbers[f"tacd_{name}"]) for name in COUNTED)
 
 
 def what_is_counted(program):
@@ -1075,7 +915,7 @@ def records_are_counted(program):
                 for more, wanted in many:
                     account(device, 10, "bob", "task_id=7", times=more)
                     came = operator.numbers()["tacd_records"]
-                    require(came == str(wanted), f"{options}: {came} are counted, not {wanted}")
+                    require(came == wanted, f"{options}: {came} are counted, not {wanted}")
                     kept = operator.ask("records").count("\n") + 1
                     require(kept == wanted, f"{options}: {kept} are kept, not {wanted}")
                 stops(server, operator)
@@ -1102,53 +942,10 @@ def no_room_for_records(program):
         for _ in range(2):
             require(is_answered(device, RECORD, NOT_STORED), "one more is answered otherwise")
         came = operator.numbers()["tacd_records"]
-        require(came == "1000000", f"{came} are counted")
+        require(came == 1_000_000, f"{came} are counted")
         counted = "starts 0 stops 0 watchdogs 0 updates 1000000 open 0 elapsed 0 drift 0"
         told(operator, ("tally user bob", f"tally user bob {counted}"))
         stops(server, operator, NEARLY_FULL + FULL)
-
-
-class Keeping:
-    """A server whose edits are kept, and its operator."""
-
-    def __init__(self, program):
-        self.server = attended(program, "--keep-edits", "kept")
-        self.operator = Operator(self.server)
-        self.kept = pathlib.Path(self.server.folder.name, "kept")
-        self.policy = pathlib.Path(self.server.folder.name, "policy")
-        self.draft = pathlib.Path(self.server.folder.name, ".kept.tacd-draft")
-
-    def __enter__(self):
-        return self
-
-    def __exit__(self, *_):
-        self.operator.__exit__()
-        self.server.__exit__()
-
-    def asks(self, line, wanted, lines):
-        """The line is answered so, and then the file has these lines, or isn't there. If it had them
-        before it isn't written again."""
-        was = self.found()
-        told(self.operator, (line, wanted))
-        came = self.found()
-        require(came[0] == lines, f"after {line} the file has {came[0]!r}, not {lines!r}")
-        require(came == was or lines != was[0], f"after {line} the file is written again")
-
-    def found(self):
-        """The lines of the file, which file it is, and when it was written, if it is there."""
-        if not self.kept.is_file():
-            return None, None, None
-        found = self.kept.stat()
-        lines = "; ".join(self.kept.read_text().splitlines())
-        return lines, found.st_ino, found.st_mtime_ns
-
-    def tells(self, **wanted):
-        numbers = self.operator.numbers()
-        came = {name: numbers[f"tacd_{name}"] for name in wanted}
-        require(came == wanted, f"it tells {came}")
-
-
-FIRST = "policy 2; group ops; permit show .*; user bob in ops; "
 
 
 def edits_are_kept(program):
@@ -1175,22 +972,35 @@ def edits_are_kept(program):
             keeping.asks(line, wanted, lines)
         mode = keeping.kept.stat().st_mode & 0o777
         require(mode == 0o600, f"the file has mode {mode:o}")
-        keeping.tells(edits_kept="1", serves_edits="1")
+        keeping.tells(edits_kept=1, serves_edits=1)
         replace(keeping.server, "policy", "group ops; permit (")
         refused = "fault line 2 5 BadPattern 3 Unclosed at 0"
         keeping.asks("reload", refused, net)
         replace(keeping.server, "policy", "group ops; permit ping; user bob in ops")
         loaded = "ok\nuser bob now permits: ping\nuser bob now denies: show "
         keeping.asks("reload", loaded, None)
-        keeping.tells(edits_kept="1", serves_edits="0")
+        keeping.tells(edits_kept=1, serves_edits=0)
         keeping.asks("add group far", "ok", "policy 2; group ops; permit ping; user bob in ops; group far")
         stops(keeping.server, keeping.operator)
 
 
-NO_ROOM = "it is no regular file"
 NOT_KEPT = f"not kept: {NO_ROOM}\n"
 BEGINS = f"tacd: kept: {NO_ROOM}; edits aren't kept\n"
 IS_OVER = "tacd: kept: edits are kept again\n"
+
+
+def is_not_removed(keeping):
+    """A reload can't remove the file, and later it can."""
+    keeping.kept.unlink()
+    keeping.kept.mkdir()
+    replace(keeping.server, "policy", "group ops; user bob in ops")
+    loaded = "ok\nuser bob now denies: show \n2 of 3 users are gone"
+    keeping.asks("reload", f"{NOT_KEPT}{loaded}", None)
+    keeping.asks("why bob show run", "denied by default", None)
+    keeping.tells(edits_kept=0, serves_edits=0)
+    keeping.kept.rmdir()
+    keeping.asks("why bob show run", "denied by default", None)
+    keeping.tells(edits_kept=1, serves_edits=0)
 
 
 def a_store_that_is_full(program):
@@ -1202,24 +1012,14 @@ def a_store_that_is_full(program):
     with Keeping(program) as keeping:
         keeping.draft.mkdir()
         keeping.asks("add user eve", f"{NOT_KEPT}ok", None)
-        keeping.tells(edits_kept="0", serves_edits="1")
+        keeping.tells(edits_kept=0, serves_edits=1)
         keeping.asks("why bob show run", permitted, None)
         keeping.asks("drop group ops 9", "refused 7 BadIndex", None)
         keeping.asks("add user ann", f"{NOT_KEPT}ok", None)
         keeping.draft.rmdir()
         keeping.asks("why bob show run", permitted, ann)
-        keeping.tells(edits_kept="1", serves_edits="1")
-        # One that can't be removed.
-        keeping.kept.unlink()
-        keeping.kept.mkdir()
-        replace(keeping.server, "policy", "group ops; user bob in ops")
-        loaded = "ok\nuser bob now denies: show \n2 of 3 users are gone"
-        keeping.asks("reload", f"{NOT_KEPT}{loaded}", None)
-        keeping.asks("why bob show run", "denied by default", None)
-        keeping.tells(edits_kept="0", serves_edits="0")
-        keeping.kept.rmdir()
-        keeping.asks("why bob show run", "denied by default", None)
-        keeping.tells(edits_kept="1", serves_edits="0")
+        keeping.tells(edits_kept=1, serves_edits=1)
+        is_not_removed(keeping)
         keeping.draft.mkdir()
         keeping.asks("add user eve", f"{NOT_KEPT}ok", None)
         keeping.draft.rmdir()
@@ -1228,38 +1028,6 @@ def a_store_that_is_full(program):
         stops(keeping.server, keeping.operator, complained)
         came = keeping.kept.read_text()
         require(came == "policy 2\ngroup ops\nuser bob in ops\nuser eve\n", f"it has {came!r}")
-
-
-def lies_in(folder):
-    """Each file of a folder: which it is, its rights and its text, or where it leads; and the names of
-    all else."""
-    found = {}
-    for path in pathlib.Path(folder).iterdir():
-        status = path.lstat()
-        if path.is_symlink():
-            found[path.name] = os.readlink(path)
-        elif path.is_file():
-            found[path.name] = status.st_ino, status.st_mode, path.read_text()
-        else:
-            found[path.name] = status.st_ino
-    return str(sorted(found.items()))
-
-
-def isnt_begun(program, path, why, lay, *options, **more):
-    """A server in whose folder something was laid, and whose edits are to be kept at a path, ends with
-    4. It says what is in its way, and all that lies there stays as it is."""
-    words = ("--console", "console", "--keep-edits", path, *options)
-    with tempfile.NamedTemporaryFile("r") as noted:
-
-        def before():
-            """In the server's folder, before its program begins."""
-            lay(pathlib.Path())
-            pathlib.Path(noted.name).write_text(lies_in("."))
-
-        with Server(program, *words, before=before, **more) as server:
-            server.ends(complained=f"tacd: {why}\n", status=4, is_listening=False)
-            came, wanted = lies_in(server.folder.name), noted.read()
-            require(came == wanted, f"with {path} it leaves {came}, not {wanted}")
 
 
 def nothing(_):
@@ -1271,20 +1039,6 @@ def links(old, new):
     return lambda folder: os.link(folder / old, folder / new)
 
 
-def leads(new, old):
-    """A name leads to another one."""
-    return lambda folder: os.symlink(old, folder / new)
-
-
-def writes(name, mode, text="a draft\n"):
-    def lay(folder):
-        path = folder / name
-        path.write_text(text)
-        path.chmod(mode)
-
-    return lay
-
-
 IS_POLICY = "it is the policy's own file"
 IS_KEY = "it is the key's file"
 IS_DEVICES = "it is the devices' file"
@@ -1294,36 +1048,42 @@ NOT_LEFT = "no server left this here"
 DRAFT, LOCK = "./.kept.tacd-draft", "./.kept.tacd-lock"
 
 
+LOGS = ("--log", "log")
+NAMED = {"key": ("--devices", "devices"), "devices": ONE}
+# Places that are none for edits, why, what lies there, and options of the server.
+OTHER_USES = (
+    ("policy", IS_POLICY, nothing, (), {}),
+    ("./policy", IS_POLICY, nothing, (), {}),
+    ("kept", IS_POLICY, links("policy", "kept"), (), {}),
+    ("kept", NO_ROOM, leads("kept", "policy"), (), {}),
+    ("kept", NO_ROOM, lambda folder: (folder / "kept").mkdir(), (), {}),
+    ("key", IS_KEY, nothing, (), {}),
+    ("kept", IS_KEY, links("key", "kept"), (), {}),
+    ("devices", IS_DEVICES, nothing, (), NAMED),
+    ("log", IS_LOG, nothing, LOGS, {}),
+    ("./log", IS_LOG, writes("log", 0o600), LOGS, {}),
+    ("here/log", IS_LOG, leads("here", "."), LOGS, {}),
+    ("console", IS_CONSOLE, nothing, (), {}),
+)
+# What lies where a server makes its own files, and why it isn't one.
+IN_THE_WAY = (
+    (links("policy", DRAFT), f"{DRAFT}: {IS_POLICY}"),
+    (links("key", LOCK), f"{LOCK}: {IS_KEY}"),
+    (writes(DRAFT, 0o640), f"{DRAFT}: {NOT_LEFT}"),
+    (writes(LOCK, 0o640), f"{LOCK}: {NOT_LEFT}"),
+    (leads(DRAFT, "policy"), f"{DRAFT}: {NO_ROOM}"),
+    (leads(LOCK, "kept"), f"{LOCK}: {NO_ROOM}"),
+    (lambda folder: (folder / DRAFT).mkdir(), f"{DRAFT}: {NO_ROOM}"),
+    (lambda folder: os.mkfifo(folder / LOCK), f"{LOCK}: {NO_ROOM}"),
+)
+
+
 def what_is_no_place_for_edits(program):
     """A file of another use, by any name, is none, also where it isn't there yet; nor is what isn't a
     regular file. What lies where a server makes its own files has to be what a server left."""
-    logs = ("--log", "log")
-    named = {"key": ("--devices", "devices"), "devices": ONE}
-    for path, why, lay, options, more in (
-        ("policy", IS_POLICY, nothing, (), {}),
-        ("./policy", IS_POLICY, nothing, (), {}),
-        ("kept", IS_POLICY, links("policy", "kept"), (), {}),
-        ("kept", NO_ROOM, leads("kept", "policy"), (), {}),
-        ("kept", NO_ROOM, lambda folder: (folder / "kept").mkdir(), (), {}),
-        ("key", IS_KEY, nothing, (), {}),
-        ("kept", IS_KEY, links("key", "kept"), (), {}),
-        ("devices", IS_DEVICES, nothing, (), named),
-        ("log", IS_LOG, nothing, logs, {}),
-        ("./log", IS_LOG, writes("log", 0o600), logs, {}),
-        ("here/log", IS_LOG, leads("here", "."), logs, {}),
-        ("console", IS_CONSOLE, nothing, (), {}),
-    ):
+    for path, why, lay, options, more in OTHER_USES:
         isnt_begun(program, path, f"{path}: {why}", lay, *options, **more)
-    for lay, why in (
-        (links("policy", DRAFT), f"{DRAFT}: {IS_POLICY}"),
-        (links("key", LOCK), f"{LOCK}: {IS_KEY}"),
-        (writes(DRAFT, 0o640), f"{DRAFT}: {NOT_LEFT}"),
-        (writes(LOCK, 0o640), f"{LOCK}: {NOT_LEFT}"),
-        (leads(DRAFT, "policy"), f"{DRAFT}: {NO_ROOM}"),
-        (leads(LOCK, "kept"), f"{LOCK}: {NO_ROOM}"),
-        (lambda folder: (folder / DRAFT).mkdir(), f"{DRAFT}: {NO_ROOM}"),
-        (lambda folder: os.mkfifo(folder / LOCK), f"{LOCK}: {NO_ROOM}"),
-    ):
+    for lay, why in IN_THE_WAY:
         isnt_begun(program, "kept", why, lay)
     for path in (DRAFT, LOCK):
         isnt_begun(program, "kept", f"{path}: {IS_LOG}", nothing, "--log", path)

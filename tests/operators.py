@@ -1,6 +1,5 @@
 """Operators at the socket of a console: how long one may be silent, or take nothing of what he is told,
-how a server ends beside others, who may connect, and what may lie at the socket's place. Each case is
-a function, as in served.py."""
+how a server ends beside others, who may connect, and what may lie at the socket's place."""
 
 import contextlib
 import errno
@@ -14,8 +13,9 @@ import tempfile
 import threading
 import time
 
-from cases import Case, Check, Outcome, Play, Wrong
-from judged import (
+from lib.cases import LONGEST_WAIT, Wrong, comes_to, require
+from lib.consoles import Operator, attended, stops, told
+from lib.judged import (
     ACCEPT4,
     BIND,
     CHMOD,
@@ -36,34 +36,11 @@ from judged import (
     Judged,
     call_of,
 )
-from operated import Operator, attended, comes_to, events, starts, stops, told
-from served import LONGEST_WAIT, POLICY, Server, require
+from lib.servers import POLICY, Server, events, has_reader, starts
 
 # A policy whose text is longer than what a socket holds: a megabyte, in lines that no automaton is made of.
 GIVEN = "".join(f"service x a{at}={'v' * 240}\n" for at in range(64))
 LONG = f"policy 3\n{POLICY}" + "".join(f"user u{number}\n{GIVEN}" for number in range(64))
-
-
-def cases(name):
-    """Each case of this file, with the name of the function that plays it."""
-    for play in (
-        silent_operators,
-        an_operator_who_reads_nothing,
-        an_operator_who_reads_slowly,
-        who_goes_loses_his_batch,
-        who_types_at_once,
-        a_quit_beside_seven_others,
-        a_quit_beside_who_reads_nothing,
-        nobody_else_may_connect,
-        a_successor_keeps_its_socket,
-        what_a_killed_server_left,
-        a_server_that_listens,
-        a_fifo_at_the_place,
-        what_else_is_at_the_place,
-        who_cannot_be_taken_in,
-    ):
-        expected = Outcome(b"", b"", 0)
-        yield Case(f"{name}: {play.__name__}", [Check(Play(play), expected, "its console was used")])
 
 
 class Glances(Clock):
@@ -173,10 +150,10 @@ def silent_operators(program):
         told(ben, ("abandon", "ok"), ("why eve ping", "unknown user"))
         sessions.clock.passes(480)
         sessions.looks(carla)
-        require(ben.numbers()["tacd_operators"] == "2", "a place is lost within ten minutes")
+        require(ben.numbers()["tacd_operators"] == 2, "a place is lost within ten minutes")
         sessions.clock.passes(0.1)
         require(is_sent_away(carla), "her place is hers for more than ten minutes")
-        comes_to(lambda: ben.numbers()["tacd_operators"], "1")
+        comes_to(lambda: ben.numbers()["tacd_operators"], 1)
         stops(server, ben)
 
 
@@ -193,7 +170,7 @@ def an_operator_who_reads_nothing(program):
             told(ben, ("begin", "busy another"))
             sessions.clock.passes(0.1)
             comes_to(lambda: ben.ask("begin"), "ok")
-            comes_to(lambda: ben.numbers()["tacd_operators"], "1")
+            comes_to(lambda: ben.numbers()["tacd_operators"], 1)
             require(is_sent_away(anna), "she is told more")
             stops(server, ben)
 
@@ -410,17 +387,6 @@ class Asking(Judged):
         elif call.seconds() == 0.25:
             self.asks.wait(LONGEST_WAIT)
             time.sleep(self.seconds)
-
-
-def has_reader(place):
-    """Whether somebody reads a FIFO, as a process does that another case has just forked, until its
-    program begins."""
-    try:
-        os.close(os.open(place, os.O_WRONLY | os.O_NONBLOCK))
-        return True
-    except OSError as error:
-        require(error.errno == errno.ENXIO, f"the FIFO can't be opened: {error}")
-        return False
 
 
 def a_fifo_at_the_place(program):

@@ -1,5 +1,5 @@
 """Servers whose log is a pipe: standard output, a FIFO, a terminal or a socket. What they write there,
-and what becomes of requests where nobody reads it. Each case is a function, as in served.py."""
+and what becomes of requests where nobody reads it."""
 
 import contextlib
 import errno
@@ -17,24 +17,11 @@ import threading
 import time
 import tty
 
-from cases import Case, Check, Outcome, Play, Wrong
-from judged import WRITE, Judged
-from operated import comes_to
-from operators import has_reader
-from served import (
-    LONGEST_WAIT,
-    OPENAT,
-    POLICY,
-    STORED,
-    TIME,
-    Server,
-    connect,
-    is_answered,
-    is_permitted,
-    require,
-    typed,
-    visit,
-)
+from lib.cases import LONGEST_WAIT, Wrong, comes_to, require
+from lib.consoles import typed
+from lib.devices import STORED, TIME, connect, is_answered, is_permitted, visit
+from lib.judged import OPENAT, WRITE, Judged
+from lib.servers import POLICY, Server, has_reader
 
 OUTPUT = "standard output"
 FAILS = "tacd: {}: {}; requests aren't answered until it takes lines\n"
@@ -46,32 +33,6 @@ NO_FILE = "it is no regular file"
 LEAST, MANY = 4096, 100
 # How long an append waits for room, in seconds, if the pipe took the lines before.
 PATIENCE = 0.2
-
-
-def cases(name):
-    """Each case of this file, with the name of the function that plays it."""
-    for play in (
-        lines_on_standard_output,
-        standard_output_by_its_path,
-        standard_error,
-        a_pipe_that_nobody_reads,
-        a_reader_who_is_late,
-        a_reader_who_is_stuck_is_waited_for_once,
-        a_reader_who_goes_away,
-        a_fifo,
-        a_line_that_fits_in_part,
-        a_line_longer_than_a_pipe,
-        a_terminal,
-        a_socket,
-        a_pipe_that_cannot_be_opened,
-        a_file_as_standard_output,
-        a_standard_output_that_others_read,
-        what_is_refused,
-        an_output_that_is_closed,
-        a_policy_that_is_refused,
-    ):
-        expected = Outcome(b"", b"", 0)
-        yield Case(f"{name}: {play.__name__}", [Check(Play(play), expected, "its log was a pipe")])
 
 
 class Pipe:
@@ -161,8 +122,8 @@ def stops(program, server, complained=""):
         _, said = server.process.communicate(timeout=LONGEST_WAIT)
     except subprocess.TimeoutExpired:
         raise Wrong("it didn't end") from None
-    before, listening, after = said.decode().partition(f"listening {server.address[1]}\n")
-    came = (before + after, bool(listening), server.process.returncode)
+    (listening,) = server.listening
+    came = (said.decode().replace(listening, "", 1), listening in said.decode(), server.process.returncode)
     require(came == (complained, True, 0), f"it ended by {came}")
 
 
@@ -210,7 +171,7 @@ def standard_error(program):
         require(is_permitted(server), "bob isn't permitted")
         require(typed(program, server, "quit") == "ok\n", "quit isn't answered")
         printed, said = server.process.communicate(timeout=LONGEST_WAIT)
-    require(printed.decode() == f"listening {server.address[1]}\n", f"it prints {printed}")
+    require([printed.decode()] == server.listening, f"it prints {printed}")
     types = [json.loads(line).get("type", "console") for line in said.splitlines()]
     require(types == ["command", "console"], f"it says {said}")
 
@@ -452,17 +413,21 @@ def what_is_refused(program):
             ("/dev/full", aside, subprocess.PIPE, f"tacd: /dev/full: {NO_FILE}\n", 4),
         ):
             words = ["serve", "--port", "1", "--key", "k", "--log", log, *options, "policy"]
-            run = subprocess.run(
-                [program, *words],
-                cwd=folder,
-                stdin=subprocess.DEVNULL,
-                stdout=output,
-                stderr=subprocess.PIPE,
-                timeout=LONGEST_WAIT,
-            )
-            came = (run.stdout or b"", run.stderr.decode(), run.returncode)
+            came = ran(program, words, folder, output)
             require(came == (b"", said, status), f"{log} {options} ends by {came}")
         os.close(nowhere)
+
+
+def ran(program, words, folder, output):
+    run = subprocess.run(
+        [program, *words],
+        cwd=folder,
+        stdin=subprocess.DEVNULL,
+        stdout=output,
+        stderr=subprocess.PIPE,
+        timeout=LONGEST_WAIT,
+    )
+    return run.stdout or b"", run.stderr.decode(), run.returncode
 
 
 def an_output_that_is_closed(program):

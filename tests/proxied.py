@@ -1,37 +1,43 @@
-"""Servers with a socket that a TLS proxy calls, and what comes there: the header that tells who
-called, and then packets in clear (RFC 9887). Each case is a function, as in served.py."""
+"""Servers with a socket that a TLS proxy calls, and what comes there: the header that tells who called,
+and then packets in clear (RFC 9887)."""
 
 import contextlib
-import json
-import os
 import pathlib
 import socket
 import stat
-import struct
 import time
 
-from cases import Case, Check, Outcome, Play
-from notation import spelled
-from served import (
+from lib.cases import LONGEST_WAIT, SOON, require
+from lib.consoles import typed
+from lib.devices import (
     ASK,
-    BLANK,
     CLOSING,
     KEPT,
     LOGIN,
-    LONGEST_WAIT,
     NAME_WANTED,
     PERMITTED,
     RECORD,
-    SOON,
     STORED,
-    Server,
     answer,
     connect,
     is_answered,
     is_closed,
-    require,
-    typed,
 )
+from lib.proxies import (
+    BY_TLS,
+    IN_CLEAR,
+    KEPT_IN_CLEAR,
+    SHOWN,
+    SHOWN_BEFORE,
+    SIGNATURE,
+    called,
+    clear,
+    flagged,
+    header,
+    line,
+    vector,
+)
+from lib.servers import BLANK, Server, device_events
 
 KEY = b"fjord-and-fell-2026-11"
 # One comes either way, one by a proxy with any certificate, one with its own alone, one with a key.
@@ -55,35 +61,8 @@ device inside
 at 127.0.0.5
 tls
 """
-# TAC_PLUS_UNENCRYPTED_FLAG alone, and with TAC_PLUS_SINGLE_CONNECT_FLAG.
-IN_CLEAR, KEPT_IN_CLEAR = "01", "05"
 BAD_BODY = "c00202{flag}.00000001.0000000e.110000080000'bad body'"
-SIGNATURE = bytes.fromhex("0d0a0d0a000d0a515549540a")
-TLS, NAME = 0x20, 0x22
-# PP2_CLIENT_SSL, PP2_CLIENT_CERT_CONN and PP2_CLIENT_CERT_SESS, and all of them.
-BY_TLS, SHOWN, SHOWN_BEFORE, VERIFIED = 1, 2, 4, 7
 NO_HEADER = "tacd: proxy: bad proxy header, its connection is closed\n"
-
-
-def cases(name):
-    """Each case of this file, with the name of the function that plays it."""
-    for play in (
-        packets_in_clear,
-        a_packet_without_the_flag,
-        the_port_beside_it,
-        a_proxy_alone,
-        certificates,
-        nothing_verified,
-        each_device_its_own_way,
-        headers_in_pieces,
-        no_headers,
-        nobody_called,
-        no_caller,
-        so_many_of_an_address,
-        the_socket,
-    ):
-        expected = Outcome(b"", b"", 0)
-        yield Case(f"{name}: {play.__name__}", [Check(Play(play), expected, "a proxy called")])
 
 
 def serving(program, *options, **more):
@@ -93,53 +72,6 @@ def serving(program, *options, **more):
     return Server(program, *words, **more)
 
 
-def line(address, family=4):
-    """A header of version 1."""
-    return f"PROXY TCP{family} {address} 198.51.100.1 40000 300\r\n".encode()
-
-
-def vector(kind, value):
-    return struct.pack(">BH", kind, len(value)) + value
-
-
-def header(address, name=None, command=0x21, client=VERIFIED, verify=0, more=b""):
-    """A header of version 2, with the name of a certificate if one is said, and with nothing of TLS
-    where the client has no flags."""
-    family = socket.AF_INET6 if ":" in address else socket.AF_INET
-    told = socket.inet_pton(family, address) * 2 + struct.pack(">HH", 40000, 300)
-    if client is not None:
-        inner = b"" if name is None else vector(NAME, name)
-        told += vector(TLS, struct.pack(">BI", client, verify) + inner)
-    told += more
-    kind = 0x21 if family == socket.AF_INET6 else 0x11
-    return SIGNATURE + struct.pack(">BBH", command, kind, len(told)) + told
-
-
-def clear(text, flag=IN_CLEAR):
-    """A packet of the notation whose body is as it stands."""
-    return bytes.fromhex(spelled("packet " + text.format(flag=flag)).removeprefix("packet "))
-
-
-def flagged(text):
-    """The notation of a packet with the place for its flags."""
-    return f"{text[:6]}{{flag}}{text[8:]}"
-
-
-@contextlib.contextmanager
-def called(server, head=b""):
-    """A connection of a proxy that has sent this first."""
-    path = os.path.join(server.folder.name, "proxy")
-    until = time.monotonic() + LONGEST_WAIT
-    with socket.socket(socket.AF_UNIX) as device:
-        device.settimeout(LONGEST_WAIT)
-        while device.connect_ex(path):
-            require(time.monotonic() < until, "nobody listens")
-            time.sleep(0.005)
-        with contextlib.suppress(ConnectionError):
-            device.sendall(head)
-        yield device
-
-
 def asks(server, head, sent=ASK, wanted=PERMITTED):
     """Whether a device of which a proxy tells this is answered so, on a connection of its own."""
     wanted = clear(wanted)
@@ -147,15 +79,9 @@ def asks(server, head, sent=ASK, wanted=PERMITTED):
         return answer(device, clear(sent), len(wanted)) == wanted
 
 
-def events(server):
-    """The lines of the log that a device made."""
-    lines = pathlib.Path(server.folder.name, "log").read_text("utf-8").splitlines()
-    return [event for event in map(json.loads, lines) if "device" in event]
-
-
 def refused(server):
     """Why connections were refused, and of which devices."""
-    return [(event.get("name"), event["why"]) for event in events(server) if "count" in event]
+    return [(event.get("name"), event["why"]) for event in device_events(server) if "count" in event]
 
 
 def ends(program, server, complained=""):
@@ -181,7 +107,7 @@ def packets_in_clear(program):
             wanted = clear(flagged(STORED), KEPT_IN_CLEAR)
             came = answer(device, clear(flagged(RECORD), KEPT_IN_CLEAR), len(wanted))
             require(came == wanted, f"a record is answered by {came}")
-        told = [(event["device"], event["name"], event["tls"], event["type"]) for event in events(server)]
+        told = [(event["device"], event["name"], event["tls"], event["type"]) for event in device_events(server)]
         device = ("192.0.2.1:40000", "both")
         wanted = [(*device, name, "command") for name in (None, None, "b\u00c3\u00b6b", None, None, None)]
         require(told == [*wanted, (*device, None, "account")], f"the log has {told}")
@@ -196,7 +122,7 @@ def a_packet_without_the_flag(program):
                 wanted = clear(BAD_BODY, wanted)
                 came = answer(device, clear(ASK, flag) + clear(ASK), len(wanted) + 1)
                 require(came == wanted, f"it is answered by {came}")
-        told = [(event["type"], event["why"]) for event in events(server)]
+        told = [(event["type"], event["why"]) for event in device_events(server)]
         require(told == [("refused", "bad body")] * 2, f"the log has {told}")
         ends(program, server)
 
@@ -212,7 +138,7 @@ def the_port_beside_it(program):
             device.sendall(clear(ASK))
             require(is_closed(device, SOON), "a packet in clear is taken at the port")
         require(asks(server, line("127.0.0.1")), "the device isn't answered by the proxy")
-        told = [(event["name"], "tls" in event, event.get("why")) for event in events(server)]
+        told = [(event["name"], "tls" in event, event.get("why")) for event in device_events(server)]
         wanted = [("both", False, None), ("both", False, "bad header"), ("both", True, None)]
         require(told == wanted, f"the log has {told}")
         ends(program, server)
@@ -243,7 +169,7 @@ def certificates(program):
         ):
             with called(server, head) as device:
                 require(is_closed(device, SOON), f"{head} is served")
-        told = events(server)
+        told = device_events(server)
         require([event["tls"] for event in told[:2]] == ["core-1.example"] * 2, f"it has {told}")
         require(told[1]["device"] == "[2001:db8::7]:40000", f"it has {told}")
         require(refused(server)[0] == ("core", "other certificate"), f"it has {told}")
@@ -251,6 +177,17 @@ def certificates(program):
         told = typed(program, server, "status")
         require('{why="other_certificate"} 5\n' in told, f"it tells {told}")
         ends(program, server, other.format("192.0.2.3"))
+
+
+# What a proxy says of a device of which it verified nothing.
+UNVERIFIED = (
+    {"verify": 1},
+    {"verify": 0x12000000},
+    {"client": BY_TLS},
+    {"client": BY_TLS, "verify": 1},
+    {"client": SHOWN | SHOWN_BEFORE},
+    {"client": 0},
+)
 
 
 def nothing_verified(program):
@@ -272,19 +209,12 @@ def nothing_verified(program):
         heads = [
             header(address, b"core-1.example", **told)
             for address in ("192.0.2.1", "192.0.2.3")
-            for told in (
-                {"verify": 1},
-                {"verify": 0x12000000},
-                {"client": BY_TLS},
-                {"client": BY_TLS, "verify": 1},
-                {"client": SHOWN | SHOWN_BEFORE},
-                {"client": 0},
-            )
+            for told in UNVERIFIED
         ]
         for head in heads:
             with called(server, head) as device:
                 require(is_closed(device, SOON), f"{head} is served")
-        told = [event for event in events(server) if "count" in event]
+        told = [event for event in device_events(server) if "count" in event]
         require(refused(server)[0] == ("both", "no certificate"), f"it has {told}")
         require(told[0]["tls"] is None, f"it has {told}")
         told = typed(program, server, "status")
@@ -308,7 +238,7 @@ def each_device_its_own_way(program):
         with serving(program) as server:
             with called(server, head) if head else connect(server, source) as device:
                 require(is_closed(device, SOON), f"{why}: it is served")
-            require(refused(server) == [(name, why)], f"the log has {events(server)}")
+            require(refused(server) == [(name, why)], f"the log has {device_events(server)}")
             counted = f'{{why="{why.replace(" ", "_")}"}} 1\n'
             told = typed(program, server, "status")
             require(counted in told, f"it tells {told}")
@@ -358,7 +288,7 @@ def no_headers(program):
             require(is_closed(device, SOON), "one that is cut off is kept")
         require(is_closed(slow, 20), "a header that never ends is waited for")
         require(9 < time.monotonic() - began < 15, "its time is another one")
-        told = [event for event in events(server) if "count" in event]
+        told = [event for event in device_events(server) if "count" in event]
         require(all(event["device"] == "proxy" for event in told), f"the log has {told}")
         require(refused(server)[0] == (None, "bad proxy header"), f"the log has {told}")
         told = typed(program, server, "status")
@@ -376,7 +306,7 @@ def nobody_called(program):
         with called(server) as device:
             device.shutdown(socket.SHUT_WR)
             require(is_closed(device, SOON), "one without a byte is kept")
-        require(events(server) == [], f"the log has {events(server)}")
+        require(device_events(server) == [], f"the log has {device_events(server)}")
         told = typed(program, server, "status")
         require("tacd_connections_accepted_total 0\n" in told, f"it tells {told}")
         require('{why="bad_proxy_header"} 0\n' in told, f"it tells {told}")
@@ -393,7 +323,7 @@ def no_caller(program):
         for head in heads:
             with called(server, head) as device:
                 require(is_closed(device, SOON), f"{head} is served")
-        told = [(event["device"], event["why"]) for event in events(server)]
+        told = [(event["device"], event["why"]) for event in device_events(server)]
         require(set(told) == {("proxy", "bad proxy header")}, f"the log has {told}")
         told = typed(program, server, "status")
         require(f'{{why="bad_proxy_header"}} {len(heads)}\n' in told, f"it tells {told}")
@@ -414,7 +344,7 @@ def so_many_of_an_address(program):
         with called(server, line("192.0.2.2")) as device:
             require(is_closed(device, SOON), "a third is served")
         require(asks(server, line("192.0.2.1")), "another address isn't answered")
-        require(refused(server) == [("any", "too many connections")], f"it has {events(server)}")
+        require(refused(server) == [("any", "too many connections")], f"it has {device_events(server)}")
         ends(program, server)
 
 

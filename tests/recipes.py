@@ -1,6 +1,5 @@
-"""What docs/REVIEW.md tells a reader to run, as it stands there: the job for merge requests, on branches that
-change secrets alone, and commands with what they print. Each case is a function that raises Wrong where
-something goes otherwise."""
+"""What docs/REVIEW.md tells a reader to run, as it stands there: the job for merge requests, on
+branches that change secrets alone, and commands with what they print."""
 
 import os
 import pathlib
@@ -8,7 +7,7 @@ import re
 import subprocess
 import tempfile
 
-from cases import Case, Check, Outcome, Play, Wrong
+from lib.cases import Wrong
 
 LONGEST_RUN = 60
 TOP = pathlib.Path(__file__).resolve().parent.parent
@@ -46,23 +45,6 @@ case "$*" in *--edits*) echo "batch 1: refused 11 TooManyStates user bob"; exit 
 exec '{}' "$@"
 """
 HASH = "$6$saltsalt$temoAzB1LMUGfs39YsEHhlSSY8ud5tjHcrE1ZINzi8TsesBqqjufdtA7fVhnojTHlBhKZVF0Q9wxWAcE707Cb0"
-
-
-def cases(name):
-    """Each case of this file, with the name of the function that plays it."""
-    for play in (
-        nothing_changes,
-        a_login_is_replaced,
-        a_login_becomes_a_hash,
-        an_enable_is_added,
-        a_login_is_removed,
-        a_user_is_removed,
-        several_secrets_change,
-        there_are_no_edits,
-        commands_of_reviews,
-    ):
-        expected = Outcome(b"", b"", 0)
-        yield Case(f"{name}: {play.__name__}", [Check(Play(play), expected, "its recipe")])
 
 
 def nothing_changes(program):

@@ -4,15 +4,11 @@ what the console answers to the edit, and of two policies what it answers to `re
 function that raises Wrong where something goes otherwise."""
 
 import pathlib
-import subprocess
-import tempfile
 
-from cases import Case, Check, Outcome, Play, Wrong
-from operated import starts
-from served import Server, types
-
-LONGEST_RUN = 60
-BETWEEN = "between two of them the policy is neither OLD nor NEW"
+from lib.cases import Wrong
+from lib.consoles import types
+from lib.reviewing import ran, reviewed
+from lib.servers import Server, starts
 
 POLICY = """group ops
 permit a.*
@@ -93,20 +89,6 @@ group t in s
 """
 
 
-def cases(name):
-    """Each case of this file, with the name of the function that plays it."""
-    for play in (
-        edits_are_told_as_the_console_tells_them,
-        reloads_are_told_as_the_console_tells_them,
-        pairs_by_chance,
-        deep_chains,
-        a_full_policy,
-        all_rules_of_a_group,
-    ):
-        expected = Outcome(b"", b"", 0)
-        yield Case(f"{name}: {play.__name__}", [Check(Play(play), expected, "its reviews")])
-
-
 def edits_by_chance(seed, count):
     """So many edits, by a generator of numbers that seem to be by chance (D. E. Knuth and H. W.
     Lewis)."""
@@ -121,18 +103,6 @@ def edits_by_chance(seed, count):
     for _ in range(count):
         words = one_of(EDITS).split()
         yield " ".join(one_of(CHOICES[word]) if word in CHOICES else word for word in words)
-
-
-def ran(program, words, given=""):
-    """What a run prints, which has to end well, and to complain of nothing but several batches."""
-    run = subprocess.run(
-        [program, *words], input=given, capture_output=True, text=True, timeout=LONGEST_RUN
-    )
-    batches = run.stdout.splitlines().count("begin")
-    complained = f"tacd: {batches} batches; {BETWEEN}\n" if batches > 1 else ""
-    if run.returncode or run.stderr != complained:
-        raise Wrong(f"{words[0]} ends with {run.returncode}: {run.stderr}")
-    return run.stdout
 
 
 def replayed(program, policy, lines):
@@ -156,15 +126,6 @@ def replayed(program, policy, lines):
     if len(answers) != len(lines) or len(policies) != len(lines):
         raise Wrong(f"{len(lines)} lines have {len(answers)} answers")
     return list(zip(answers, policies))
-
-
-def reviewed(program, words, old, new):
-    """What a review of two policies prints."""
-    with tempfile.TemporaryDirectory(prefix="tacd-test-") as folder:
-        files = [pathlib.Path(folder, name) for name in ("old", "new")]
-        for file, text in zip(files, (old, new)):
-            file.write_text(text, "utf-8")
-        return ran(program, [*words, *files])
 
 
 def edits_are_told_as_the_console_tells_them(program):

@@ -1,332 +1,65 @@
-"""Servers that listen on this machine, and devices that call them: what an option of `tacd serve`
-means there. Each case is a function that raises Wrong where something goes otherwise."""
+"""Servers that listen on this machine, and devices that call them: what an option of `tacd serve` means
+there."""
 
 import contextlib
 import ctypes
 import errno
-import fcntl
-import hashlib
-import itertools
 import json
 import os
 import pathlib
-import random
-import re
 import resource
-import select
 import socket
 import stat
-import struct
 import subprocess
 import tempfile
-import threading
 import time
 
-from cases import Case, Check, Outcome, Play, Wrong
-from generated import ATTRIBUTES, asked, given, granted
-from notation import spelled
-
-KEY = b"wide kelp"
-POLICY = "group ops\npermit show .*\nuser bob in ops\n"
-# A prefix of each device is within one of the other, before it or after it. Nobody is at 127.0.0.3.
-DEVICES = b"""# two devices
-device one
-at 127.0.0.1
-at 127.0.0.8/29
-key wintry-tundra-ridge-41
-device two
-at 127.0.0.0/31
-at 127.0.0.2
-at 127.0.0.9
-key  wide kelp forest
-"""
-KEY_OF_ONE, KEY_OF_TWO = b"wintry-tundra-ridge-41", b" wide kelp forest"
-STRANGER = "127.0.0.3"
-LONGEST_WAIT = 20
-# What is closed at once is closed within these seconds. What is silent has ten, if no option says
-# otherwise.
-SOON = 5
-
-# The flag 4 in the fourth byte keeps the connection open.
-ASK = "c00201{flag}.00000001.00000036.06010101030400030d080f'bobtty0service=shellcmd=showcmd-arg=version'"
-PERMITTED = "c00202{flag}.00000001.00000006.010000000000"
-# What a packet is answered by that was padded by another key.
-BAD_BODY = "c0020200.00000001.0000000e.110000080000'bad body'"
-CLOSING, KEPT = "00", "04"
-LOGIN = "c0010100.00000001.0000000c.0101010100040000'tty0'"
-NAME_WANTED = "c0010200.00000001.00000010.0400000a0000'Username: '"
-RECORD = "c0030104.00000001.0000001a.0a060101010304000109'bobtty0task_id=7'"
-STORED = "c0030204.00000001.00000005.0000000001"
-
-
-def cases(name):
-    """Each case of this file, with the name of the function that plays it."""
-    for play in (
-        so_many_are_served_at_once,
-        so_many_and_no_more,
-        a_login_is_given_up,
-        packets_that_are_not_whole,
-        at_each_address,
-        at_an_address,
-        at_an_address_of_ipv6,
-        where_ipv6_is_alone,
-        segments_that_begin_by_themselves,
-        the_latest_records,
-        what_is_forgotten_counts_nowhere,
-        each_device_by_its_own_key,
-        strangers_are_closed,
-        a_silent_device_is_given_up,
-        an_idle_device_is_kept,
-        so_many_connections_each,
-        long_replies,
-        what_is_given_is_logged,
-        a_reload_tells_of_services,
-        a_log_after_a_run,
-        lines_wait_for_the_disk,
-        a_script_and_its_lines,
-        the_longest_script,
-        a_file_that_changes,
-        no_memory_for_a_policy,
-        without_a_console,
-        a_console_at_standard_input,
-        statuses_of_the_console_client,
-        too_few_files_may_be_open,
-        a_port_that_is_taken,
-        a_port_of_all_addresses,
-    ):
-        expected = Outcome(b"", b"", 0)
-        yield Case(f"{name}: {play.__name__}", [Check(Play(play), expected, "its devices called")])
-
-
-def ready(streams, seconds):
-    """Those of these streams, or of their numbers, that may be read or are at their end, as soon as one is, and
-    none once so many seconds are over."""
-    by_number = {it if isinstance(it, int) else it.fileno(): it for it in streams}
-    poll = select.poll()  # since select itself takes no number over 1,023
-    for number in by_number:
-        poll.register(number, select.POLLIN)
-    return [by_number[number] for number, _ in poll.poll(1000 * seconds)]
-
-
-def require(holds, why):
-    if not holds:
-        raise Wrong(why)
-
-
-def packet(text, key=KEY, **parts):
-    """A packet of the notation, with the pad of the key put on its body (RFC 8907, section 4.5)."""
-    whole = bytes.fromhex(spelled("packet " + text.format(**parts)).removeprefix("packet "))
-    head, body = whole[:12], whole[12:]
-    pad = digest = b""
-    while len(pad) < len(body):
-        digest = hashlib.md5(head[4:8] + key + head[:1] + head[2:3] + digest).digest()
-        pad += digest
-    return head + bytes(one ^ other for one, other in zip(body, pad))
-
-
-class Server:
-    """A server with these options, its console at standard input unless they say otherwise."""
-
-    def __init__(self, program, *options, key=("--key-file", "key"), host="127.0.0.1", port=None,
-                 has_port=True, proxy=None, output=subprocess.PIPE, policy=POLICY,
-                 devices=DEVICES.decode(), before=None, file="policy"):
-        self.folder = tempfile.TemporaryDirectory(prefix="tacd-served-")
-        self.address = (host, port or free_port())
-        places = {"--port": self.address[1] if has_port else None, "--proxy": proxy}
-        self.places = {option: str(place) for option, place in places.items() if place}
-        at = dict(itertools.pairwise(options)).get("--address")
-        self.at = f" at {at}" if at not in (None, "0.0.0.0", "::") else ""
-        files = {file: policy.encode(), "key": KEY + b"\n", "devices": devices.encode()}
-        for name, text in files.items():
-            path = pathlib.Path(self.folder.name, name)
-            path.write_bytes(text)
-            path.chmod(0o600)
-        words = ["serve", *itertools.chain(*self.places.items()), *key, *options, file]
-        self.process = subprocess.Popen(
-            ["tacd", *words],
-            executable=program,
-            cwd=self.folder.name,
-            preexec_fn=before,
-            stdin=subprocess.PIPE,
-            stdout=output,
-            stderr=subprocess.PIPE,
-        )
-
-    def __enter__(self):
-        return self
-
-    def __exit__(self, *_):
-        self.process.kill()
-        self.process.communicate()
-        self.folder.cleanup()
-
-    def ends(self, typed="", answers="", complained="", status=0, is_listening=True):
-        """After these lines it has printed where it listens and these answers, and ends so."""
-        try:
-            printed, said = self.process.communicate(typed.encode(), LONGEST_WAIT)
-        except subprocess.TimeoutExpired:
-            raise Wrong(f"it didn't end after {typed!r}") from None
-        ends = {"--port": f"{self.at}\n", "--proxy": "\n"}
-        places = self.places.items() if is_listening else ()
-        expected = "".join(f"listening {place}{ends[option]}" for option, place in places) + answers
-        came = ((printed or b"").decode(), said.decode(), self.process.returncode)
-        require(came == (expected, complained, status), f"after {typed!r} it ended by {came}")
-
-    def quits(self):
-        self.ends("quit\n")
-
-
-def limit_files(count):
-    """So many files may be open at once in this process."""
-    resource.setrlimit(resource.RLIMIT_NOFILE, (count, count))
+from bench.lib.server import free_port
+from lib.cases import LONGEST_WAIT, SOON, require
+from lib.consoles import typed, types
+from lib.devices import (
+    ASK,
+    BAD_BODY,
+    CLOSING,
+    DENIED,
+    KEPT,
+    LOGIN,
+    NAME_WANTED,
+    PERMITTED,
+    RECORD,
+    STORED,
+    TIME,
+    account,
+    answer,
+    connect,
+    is_answered,
+    is_closed,
+    is_one_closed,
+    is_permitted,
+    packet,
+    visit,
+)
+from lib.judged import FDATASYNC, OPENAT, Supervised
+from lib.notation import spelled
+from lib.scripted import ATTRIBUTES, asked, given, granted
+from lib.servers import (
+    BLANK,
+    KEY,
+    KEY_OF_ONE,
+    KEY_OF_TWO,
+    POLICY,
+    STRANGER,
+    UNKNOWN,
+    Server,
+    limit_files,
+    starts,
+)
 
 
 def limit_memory(size, process=0):
     """This process, or the one of this number, gets no memory beyond so many bytes."""
     limit = resource.RLIMIT_AS
     resource.prlimit(process, limit, (size, resource.prlimit(process, limit)[1]))
-
-
-# The numbers of system calls, on x86-64.
-FDATASYNC, OPENAT = 75, 257
-
-
-class Supervised:
-    """A process whose calls of the system are told to a function before they are made, and fail with
-    the error that it answers, if it answers one: the calls that put a file on the disk, and those
-    that open files which are read, but for those that the program's loader opens."""
-
-    # Of Linux (seccomp_unotify(2)): a filter's lines, what they answer, and what is asked of it.
-    LOAD, UNLESS, ANSWER = 0x20, 0x15, 0x06
-    ALLOWED, TOLD = 0x7FFF0000, 0x7FC00000
-    NO_NEW_PRIVILEGES, SECCOMP, SET_FILTER, NEW_LISTENER = 38, 317, 1, 8
-    RECEIVE, SEND, GOES_ON = 0xC0502100, 0xC0182101, 1
-    # Where a filter finds a call's number, and the flags of an `openat`.
-    NUMBER, FLAGS = 0, 32
-
-    def __init__(self, judge):
-        self.judge = judge
-        self.own, self.other = socket.socketpair()
-
-    def filter(self):
-        """Which calls are told."""
-        return (
-            (self.LOAD, 0, 0, self.NUMBER),
-            (self.UNLESS, 3, 0, FDATASYNC),
-            (self.UNLESS, 0, 3, OPENAT),
-            (self.LOAD, 0, 0, self.FLAGS),
-            (self.UNLESS, 0, 1, os.O_RDONLY | os.O_NOCTTY | os.O_CLOEXEC),
-            (self.ANSWER, 0, 0, self.TOLD),
-            (self.ANSWER, 0, 0, self.ALLOWED),
-        )
-
-    def begin(self):
-        """In the process, before its program begins."""
-        code = b"".join(struct.pack("HBBI", *line) for line in self.filter())
-        held = ctypes.create_string_buffer(code, len(code))
-        program = struct.pack("HxxxxxxP", len(code) // 8, ctypes.addressof(held))
-        libc = ctypes.CDLL(None, use_errno=True)
-        libc.prctl(self.NO_NEW_PRIVILEGES, 1, 0, 0, 0)
-        listener = libc.syscall(self.SECCOMP, self.SET_FILTER, self.NEW_LISTENER, program)
-        if listener < 0:
-            raise OSError(ctypes.get_errno(), "seccomp")
-        socket.send_fds(self.other, [b"x"], [listener])
-
-    def __enter__(self):
-        _, (self.listener,), _, _ = socket.recv_fds(self.own, 1, 1)
-        threading.Thread(target=self.listen, daemon=True).start()
-        return self
-
-    def __exit__(self, *_):
-        self.own.close()
-        self.other.close()
-
-    def listen(self):
-        """Until the process is gone."""
-        with contextlib.suppress(OSError):
-            while True:
-                told = bytearray(80)
-                fcntl.ioctl(self.listener, self.RECEIVE, told)
-                (call,) = struct.unpack_from("Q", told)
-                fcntl.ioctl(self.listener, self.SEND, struct.pack("Qqii", call, *self.answer(told)))
-
-    def answer(self, told):
-        """What a call that is told comes to: its result, its error, and whether it goes on."""
-        (number,) = struct.unpack_from("i", told, 16)
-        error = self.judge(number) or 0
-        return 0, -error, 0 if error else self.GOES_ON
-
-
-# In an order of this run's own, so that no two cases are given one.
-PORTS = itertools.cycle(random.sample(range(20_000, 32_000), 12_000))
-
-
-def free_port():
-    """A port that nobody has. It is bound without listening there: a process that another case forks
-    meanwhile keeps the socket until its program begins, and where it listens no server can. It is
-    below the ports that the system gives to clients, who might take it before the server does."""
-    while True:
-        port = next(PORTS)
-        with contextlib.suppress(OSError), socket.socket() as probe:
-            probe.setsockopt(socket.SOL_SOCKET, socket.SO_REUSEADDR, 1)
-            probe.bind(("0.0.0.0", port))
-            return port
-
-
-def connect(server, source=None):
-    """A connection to the server, as soon as it listens, from this address if one is said."""
-    until = time.monotonic() + LONGEST_WAIT
-    while True:
-        try:
-            return socket.create_connection(server.address, LONGEST_WAIT, source and (source, 0))
-        except OSError:
-            if time.monotonic() > until:
-                raise Wrong("nobody listens") from None
-            time.sleep(0.005)
-
-
-def answer(device, sent, length):
-    """The first bytes that are answered, fewer where the connection ends, or no more come in time."""
-    came = b""
-    with contextlib.suppress(ConnectionError, TimeoutError):
-        if sent:  # The device may have said that nothing more comes.
-            device.sendall(sent)
-        while len(came) < length:
-            more = device.recv(length - len(came))
-            if not more:
-                break
-            came += more
-    return came
-
-
-def is_answered(device, sent, wanted, **parts):
-    wanted = packet(wanted, **parts)
-    return answer(device, packet(sent, **parts), len(wanted)) == wanted
-
-
-def is_permitted(server):
-    """Whether bob is permitted, on a connection of its own."""
-    with connect(server) as device:
-        return is_answered(device, ASK, PERMITTED, flag=CLOSING)
-
-
-def is_closed(device, seconds):
-    """Whether the connection is closed within that time, without a byte."""
-    device.settimeout(seconds)
-    try:
-        return device.recv(1) == b""
-    except ConnectionError:
-        return True
-    except TimeoutError:
-        return False
-
-
-def is_one_closed(devices, seconds):
-    until = time.monotonic() + seconds
-    while time.monotonic() < until:
-        if any(is_closed(device, 0.02) for device in devices):
-            return True
-    return False
 
 
 @contextlib.contextmanager
@@ -484,28 +217,27 @@ FORGETTING = "group ops\nuser bob in ops\npermit show\nuser eve in ops\n"
 RELOAD = ("service=shell", "cmd=reload")
 
 
-def account(device, kind, user, *arguments, times=1):
-    """Records of this kind are stored: 2 START, 4 STOP, 8 WATCHDOG, 10 of an update."""
-    fixed = bytes([kind, 6, 1, 1, 1, len(user), 0, 0, len(arguments), *map(len, arguments)])
-    body = fixed + (user + "".join(arguments)).encode()
-    sent = f"c0030104.00000001.{len(body):08x}.{body.hex()}"
-    for _ in range(times):
-        require(is_answered(device, sent, STORED), f"{arguments} of {user} isn't stored")
-
-
-def types(server, line, *answers):
-    """A line at the console is answered by these."""
-    server.process.stdin.write(f"{line}\n".encode())
-    server.process.stdin.flush()
-    for wanted in answers:
-        came = server.process.stdout.readline().decode().removesuffix("\n")
-        require(came == wanted, f"after {line!r} came {came!r}, not {wanted!r}")
-
-
 def tallied(server, subject, *counts):
     names = ("starts", "stops", "watchdogs", "updates", "open", "elapsed", "drift")
     counted = " ".join(f"{name} {count}" for name, count in zip(names, counts))
     types(server, f"tally {subject}", f"tally {subject} {counted}")
+
+
+def a_thousand_records(server, device):
+    """As many as are kept, of which the first 500 go with the next one."""
+    account(device, 2, "bob", "task_id=1")
+    account(device, 2, "bob", "task_id=2")
+    account(device, 8, "bob", "task_id=1", "elapsed_time=50")
+    account(device, 4, "bob", "task_id=4", "elapsed_time=2", *RELOAD)
+    account(device, 4, "bob", "task_id=8", "elapsed_time=3")
+    account(device, 10, "zed", "task_id=0", times=495)
+    account(device, 2, "bob", "task_id=3")
+    account(device, 2, "bob", "task_id=8")
+    tallied(server, "user bob", 4, 2, 1, 0, 4, 5, 1)
+    account(device, 4, "bob", "task_id=1", "elapsed_time=5")
+    account(device, 4, "bob", "task_id=5", "elapsed_time=2", *RELOAD)
+    account(device, 10, "zed", "task_id=0", times=496)
+    tallied(server, "user bob", 4, 4, 1, 0, 3, 12, 2)
 
 
 def what_is_forgotten_counts_nowhere(program):
@@ -514,21 +246,8 @@ def what_is_forgotten_counts_nowhere(program):
     while they are kept, and an edit counts them anew."""
     options = ("--workers", "1", "--keep-records", "1000")
     with Server(program, *options, policy=FORGETTING) as server, connect(server) as device:
-        listening = server.process.stdout.readline().decode()
-        require(listening == f"listening {server.address[1]}\n", f"it says {listening}")
-        account(device, 2, "bob", "task_id=1")
-        account(device, 2, "bob", "task_id=2")
-        account(device, 8, "bob", "task_id=1", "elapsed_time=50")
-        account(device, 4, "bob", "task_id=4", "elapsed_time=2", *RELOAD)
-        account(device, 4, "bob", "task_id=8", "elapsed_time=3")
-        account(device, 10, "zed", "task_id=0", times=495)
-        account(device, 2, "bob", "task_id=3")
-        account(device, 2, "bob", "task_id=8")
-        tallied(server, "user bob", 4, 2, 1, 0, 4, 5, 1)
-        account(device, 4, "bob", "task_id=1", "elapsed_time=5")
-        account(device, 4, "bob", "task_id=5", "elapsed_time=2", *RELOAD)
-        account(device, 10, "zed", "task_id=0", times=496)
-        tallied(server, "user bob", 4, 4, 1, 0, 3, 12, 2)
+        starts(server)
+        a_thousand_records(server, device)
         # The first 500 go.
         account(device, 10, "eve", "task_id=9")
         tallied(server, "user bob", 2, 2, 0, 0, 2, 7, 1)
@@ -578,11 +297,6 @@ def each_device_by_its_own_key(program):
             server.ends("quit", complained=f"{BLANK}{told}{UNKNOWN}")
 
 
-# What a start says of the key of the second device.
-BLANK = "tacd: devices: line 10: a key with a blank at an end, which is part of it\n"
-UNKNOWN = f"tacd: {STRANGER}: unknown device, its connection is closed\n"
-
-
 def strangers_are_closed(program):
     """A stranger is closed at once, whatever he sends, also where no more connections may be there,
     and is counted for no limit. Standard error has the first of them alone, and no key is told."""
@@ -612,16 +326,6 @@ def strangers_are_closed(program):
         told += pathlib.Path(server.folder.name, "log").read_text("utf-8")
         for key in (KEY_OF_ONE, KEY_OF_TWO):
             require(key.decode().strip() not in told, f"a key is told: {told}")
-
-
-def typed(program, server, line, status=0):
-    """What the console at its socket answers, by a client that ends so."""
-    words = ["tacd", "console", "console", line]
-    ran = subprocess.run(
-        words, executable=program, cwd=server.folder.name, capture_output=True, timeout=LONGEST_WAIT
-    )
-    require((ran.stderr, ran.returncode) == (b"", status), f"{line} ends with {ran}")
-    return ran.stdout.decode()
 
 
 def a_silent_device_is_given_up(program):
@@ -719,6 +423,204 @@ def a_reload_tells_of_services(program):
         server.ends("reload\ngiven bob y\ngiven bob x\ngiven eve y\nreload\nquit\n", answers)
 
 
+ASKED = (
+    '"type":"command","user":"bob","port":"tty0","from":"","privilege":1,"service":1,'
+    '"arguments":["service=shell","cmd=show","cmd-arg=version"],"line":"show version",'
+    '"status":"PASS_ADD","text":""}'
+)
+
+
+def a_log_after_a_run(program):
+    """The file of a log has the lines of devices and of the console, its owner alone reads it, and it
+    is put on the disk for each of them, or never."""
+    for options, least in ((("--sync",), 6), ((), 0)):
+        syncs = []
+        supervised = Supervised(lambda call: syncs.append(call) if call == FDATASYNC else None)
+        options = ("--workers", "1", "--log", "log", *options)
+        with Server(program, *options, before=supervised.begin) as server, supervised:
+            ports = [visit(server), visit_of_another_version(server)]
+            server.ends("enable bob high-lake\nquit\n", "ok\n")
+            log = pathlib.Path(server.folder.name, "log")
+            require(stat.S_IMODE(log.stat().st_mode) == 0o600, "others may read the log")
+            came = [TIME.sub("", line, 1) for line in log.read_text("utf-8").splitlines()]
+        told = (
+            (0, "00000001", ASKED),
+            (0, "00000002", '"type":"refused","why":"aborted"}'),
+            (0, "00000003", ASKED),
+            (0, "00000004", '"type":"refused","why":"out of turn"}'),
+            (1, "fedcba98", '"type":"refused","why":"bad header"}'),
+        )
+        wanted = [
+            f'"device":"127.0.0.1:{ports[number]}","session":"{session}",{rest}'
+            for number, session, rest in told
+        ]
+        wanted += ['"console":"enable bob *","answer":["ok"]}', '"console":"quit","answer":[]}']
+        require(came == wanted, f"the log has {came}")
+        require(len(syncs) >= least if least else not syncs, f"it was synced {len(syncs)} times")
+
+
+def visit_of_another_version(server):
+    with connect(server) as device:
+        device.sendall(bytes.fromhex("d0010100fedcba9800000000"))
+        require(is_closed(device, LONGEST_WAIT), "the connection is kept")
+        return device.getsockname()[1]
+
+
+def lines_wait_for_the_disk(program):
+    """With --sync no reply is sent where the disk doesn't keep its line, and else nobody asks it."""
+    wanted = packet(PERMITTED, flag=KEPT)
+    for options, sent in (((), wanted), (("--sync",), b"")):
+        supervised = Supervised(lambda call: errno.EIO if call == FDATASYNC else None)
+        options = ("--workers", "1", "--log", "log", *options)
+        with Server(program, *options, before=supervised.begin) as server, supervised:
+            with connect(server) as device:
+                came = answer(device, packet(ASK, flag=KEPT), len(wanted))
+        require(came == sent, f"{came} is sent")
+
+
+SCRIPT = """key k
+user bob
+permit show .*
+run
+open 1
+packet 1 c0020100.00000001.00000036.06010101030400030d080f'bobtty0service=shellcmd=showcmd-arg=version'
+open 1
+bytes 1 d0010100.fedcba98.00000000
+"""
+
+
+def a_script_and_its_lines(program):
+    """The lines of a replay, without a time and then with one; and where they can't be written."""
+    script = "".join(f"{spelled(line)}\n" for line in SCRIPT.splitlines())
+    with tempfile.TemporaryDirectory(prefix="tacd-served-") as folder:
+        for options, status in (
+            (("--log", "log"), 0),
+            (("--log", "log", "--time", "noon"), 0),
+            (("--log", "log/none/log"), 4),
+            (("--time", "noon"), 2),
+        ):
+            run = subprocess.run(
+                [program, "replay", *options], cwd=folder, input=script.encode(), capture_output=True
+            )
+            require(run.returncode == status, f"replay {options} ends with {run.returncode}")
+        lines = pathlib.Path(folder, "log").read_text("utf-8").splitlines()
+    wanted = [
+        f'{{"time":{time},"device":"connection 1","session":"{session}",{rest}'
+        for time in ("null", '"noon"')
+        for session, rest in (
+            ("00000001", ASKED),
+            ("fedcba98", '"type":"refused","why":"bad header"}'),
+        )
+    ]
+    require(lines == wanted, f"the log has {lines}")
+
+
+def the_longest_script(program):
+    """It is read whole, and then its first line is judged. A longer one isn't read to its end, which an
+    input without end shows."""
+    most = 268_435_456
+    too_long = b"tacd: the script could not be read, or is over 268435456 bytes long\n"
+    with tempfile.TemporaryDirectory(prefix="tacd-served-") as folder:
+        script = pathlib.Path(folder, "script")
+        for path, length, wanted in (
+            (script, most, (b"fault line 1 BadKey\n", b"", 1)),
+            (script, most + 1, (b"", too_long, 4)),
+            (pathlib.Path("/dev/zero"), None, (b"", too_long, 4)),
+        ):
+            if length:
+                with path.open("wb") as file:
+                    file.truncate(length)
+            with path.open("rb") as given:
+                run = subprocess.run([program, "replay"], stdin=given, capture_output=True)
+            came = (run.stdout, run.stderr, run.returncode)
+            require(came == wanted, f"of {length} bytes it ends by {came}")
+
+
+def is_permitted_until_denied(device, server):
+    """After the first answer another policy is loaded, and what is answered then is a denial."""
+    require(is_answered(device, ASK, PERMITTED, flag=KEPT), "bob isn't permitted at first")
+    server.process.stdin.write(b"reload\n")
+    server.process.stdin.flush()
+    permitted, denied = packet(PERMITTED, flag=KEPT), packet(DENIED)
+    until = time.monotonic() + LONGEST_WAIT
+    while time.monotonic() < until:
+        came = answer(device, packet(ASK, flag=KEPT), len(permitted))
+        if came != permitted:
+            rest = answer(device, b"", len(denied) - len(permitted))
+            return came + rest == denied
+        time.sleep(0.005)
+    return False
+
+
+def make_huge(path):
+    """As many bytes as a policy may have, which take no place on the disk."""
+    path.touch(0o600)
+    with path.open("wb") as file:
+        file.truncate(268_435_456)
+
+
+def a_file_that_changes(program):
+    """The policy's file changes while a device asks, is refused, is gone, finds no memory where it is
+    opened and for its content, and is as at first again."""
+    errors = []
+    supervised = Supervised(lambda call: errors.pop() if call == OPENAT and errors else None)
+    with Server(program, before=supervised.begin) as server, supervised, connect(server) as device:
+        starts(server)
+        policy = pathlib.Path(server.folder.name, "policy")
+        policy.write_text("group ops\npermit ping\nuser bob in ops\n")
+        require(is_permitted_until_denied(device, server), "bob is answered otherwise")
+        for wanted in ("ok", "user bob now permits: ping", "user bob now denies: show "):
+            came = server.process.stdout.readline().decode()
+            require(came == f"{wanted}\n", f"{came!r} is printed, not {wanted!r}")
+        policy.write_text("group ops\npermit (\n")
+        types(server, "reload", "fault line 2 5 BadPattern 3 Unclosed at 0")
+        policy.unlink()
+        types(server, "reload", "unread policy: No such file or directory (os error 2)")
+        make_huge(policy)
+        errors.append(errno.ENOMEM)
+        types(server, "reload", "refused 12 Memory")
+        require(not errors, "the file wasn't opened")
+        limit_memory(2**27 + taken_memory(server.process.pid), server.process.pid)
+        types(server, "reload", "refused 12 Memory")
+        limit_memory(resource.RLIM_INFINITY, server.process.pid)
+        types(server, "why bob ping", "permitted by group ops rule 1")
+        policy.write_text(POLICY)
+        types(server, "reload", "ok", "user bob now permits: show ", "user bob now denies: ping")
+        types(server, "why bob ping", "denied by default")
+        printed, said = server.process.communicate(b"quit\n", LONGEST_WAIT)
+        came = (printed, said, server.process.returncode)
+        require(came == (b"", b"", 0), f"at last it ended by {came}")
+
+
+def taken_memory(process):
+    """How many bytes of addresses the process has."""
+    pages = int(pathlib.Path(f"/proc/{process}/statm").read_text().split()[0])
+    return pages * resource.getpagesize()
+
+
+def no_memory_for_a_policy(program):
+    """A server ends whose policy's file finds no memory: where it is opened, and for its content."""
+    supervised = Supervised(lambda call: errno.ENOMEM if call == OPENAT else None)
+    with Server(program, before=supervised.begin) as server, supervised:
+        told = "tacd: key: Cannot allocate memory (os error 12)\n"
+        server.ends(complained=told, status=3, is_listening=False)
+    supervised = Supervised(lambda call: errno.ENOMEM if call == OPENAT else None)
+    key = ("--key", "k")
+    with Server(program, key=key, before=supervised.begin) as server, supervised:
+        told = "tacd: policy: Cannot allocate memory (os error 12)\n"
+        server.ends(complained=told, status=3, is_listening=False)
+    with tempfile.TemporaryDirectory(prefix="tacd-served-") as folder:
+        make_huge(pathlib.Path(folder, "policy"))
+        run = subprocess.run(
+            [program, "serve", "--port", "1", "--key", "k", "policy"],
+            cwd=folder,
+            capture_output=True,
+            preexec_fn=lambda: limit_memory(2**27),
+        )
+    came = (run.stdout, run.stderr, run.returncode)
+    require(came == (b"fault Memory\n", b"tacd: memory ran out\n", 3), f"it ended by {came}")
+
+
 def without_a_console(program):
     """Standard input isn't read: the server ends once its worker does."""
     options = ("--no-console", "--workers", "1", "--connections", "2")
@@ -809,7 +711,6 @@ def answers_all(console, first, *answers):
     return lines
 
 
-
 def too_few_files_may_be_open(program):
     """A server of three workers has 25 files open beside its connections."""
     few = (
@@ -852,244 +753,3 @@ def a_port_of_all_addresses(program):
                 with Server(program, "--address", other, port=port) as second:
                     second.ends(complained=taken, status=4, is_listening=False)
             server.quits()
-
-
-# A device asks, begins a login and gives it up, asks again, and gives a login up that isn't open.
-VISIT = (
-    (ASK.replace("{flag}", KEPT), PERMITTED.replace("{flag}", KEPT)),
-    (
-        "c0010104.00000002.0000000b.0101010103000000'bob'",
-        "c0010204.00000002.00000010.0501000a0000'Password: '",
-    ),
-    ("c0010304.00000002.00000005.0000000001", None),
-    (
-        ASK.replace("{flag}", KEPT).replace(".00000001.", ".00000003."),
-        PERMITTED.replace("{flag}", KEPT).replace(".00000001.", ".00000003."),
-    ),
-    ("c0010304.00000004.00000005.0000000001", None),
-)
-ASKED = (
-    '"type":"command","user":"bob","port":"tty0","from":"","privilege":1,"service":1,'
-    '"arguments":["service=shell","cmd=show","cmd-arg=version"],"line":"show version",'
-    '"status":"PASS_ADD","text":""}'
-)
-TIME = re.compile(r'\{"time":"\d{4}-\d\d-\d\dT\d\d:\d\d:\d\d\.\d{3}Z",')
-
-
-def a_log_after_a_run(program):
-    """The file of a log has the lines of devices and of the console, its owner alone reads it, and it
-    is put on the disk for each of them, or never."""
-    for options, least in ((("--sync",), 6), ((), 0)):
-        syncs = []
-        supervised = Supervised(lambda call: syncs.append(call) if call == FDATASYNC else None)
-        options = ("--workers", "1", "--log", "log", *options)
-        with Server(program, *options, before=supervised.begin) as server, supervised:
-            ports = [visit(server), visit_of_another_version(server)]
-            server.ends("enable bob high-lake\nquit\n", "ok\n")
-            log = pathlib.Path(server.folder.name, "log")
-            require(stat.S_IMODE(log.stat().st_mode) == 0o600, "others may read the log")
-            came = [TIME.sub("", line, 1) for line in log.read_text("utf-8").splitlines()]
-        told = (
-            (0, "00000001", ASKED),
-            (0, "00000002", '"type":"refused","why":"aborted"}'),
-            (0, "00000003", ASKED),
-            (0, "00000004", '"type":"refused","why":"out of turn"}'),
-            (1, "fedcba98", '"type":"refused","why":"bad header"}'),
-        )
-        wanted = [
-            f'"device":"127.0.0.1:{ports[number]}","session":"{session}",{rest}'
-            for number, session, rest in told
-        ]
-        wanted += ['"console":"enable bob *","answer":["ok"]}', '"console":"quit","answer":[]}']
-        require(came == wanted, f"the log has {came}")
-        require(len(syncs) >= least if least else not syncs, f"it was synced {len(syncs)} times")
-
-
-def visit(server):
-    """All packets of a visit, until its connection is closed. The port that it came from."""
-    with connect(server) as device:
-        for sent, wanted in VISIT:
-            if wanted is None:
-                device.sendall(packet(sent))
-            else:
-                require(is_answered(device, sent, wanted), f"{sent} isn't answered so")
-        require(is_closed(device, LONGEST_WAIT), "the connection is kept")
-        return device.getsockname()[1]
-
-
-def visit_of_another_version(server):
-    with connect(server) as device:
-        device.sendall(bytes.fromhex("d0010100fedcba9800000000"))
-        require(is_closed(device, LONGEST_WAIT), "the connection is kept")
-        return device.getsockname()[1]
-
-
-def lines_wait_for_the_disk(program):
-    """With --sync no reply is sent where the disk doesn't keep its line, and else nobody asks it."""
-    wanted = packet(PERMITTED, flag=KEPT)
-    for options, sent in (((), wanted), (("--sync",), b"")):
-        supervised = Supervised(lambda call: errno.EIO if call == FDATASYNC else None)
-        options = ("--workers", "1", "--log", "log", *options)
-        with Server(program, *options, before=supervised.begin) as server, supervised:
-            with connect(server) as device:
-                came = answer(device, packet(ASK, flag=KEPT), len(wanted))
-        require(came == sent, f"{came} is sent")
-
-
-SCRIPT = """key k
-user bob
-permit show .*
-run
-open 1
-packet 1 c0020100.00000001.00000036.06010101030400030d080f'bobtty0service=shellcmd=showcmd-arg=version'
-open 1
-bytes 1 d0010100.fedcba98.00000000
-"""
-
-
-def a_script_and_its_lines(program):
-    """The lines of a replay, without a time and then with one; and where they can't be written."""
-    script = "".join(f"{spelled(line)}\n" for line in SCRIPT.splitlines())
-    with tempfile.TemporaryDirectory(prefix="tacd-served-") as folder:
-        for options, status in (
-            (("--log", "log"), 0),
-            (("--log", "log", "--time", "noon"), 0),
-            (("--log", "log/none/log"), 4),
-            (("--time", "noon"), 2),
-        ):
-            run = subprocess.run(
-                [program, "replay", *options], cwd=folder, input=script.encode(), capture_output=True
-            )
-            require(run.returncode == status, f"replay {options} ends with {run.returncode}")
-        lines = pathlib.Path(folder, "log").read_text("utf-8").splitlines()
-    wanted = [
-        f'{{"time":{time},"device":"connection 1","session":"{session}",{rest}'
-        for time in ("null", '"noon"')
-        for session, rest in (
-            ("00000001", ASKED),
-            ("fedcba98", '"type":"refused","why":"bad header"}'),
-        )
-    ]
-    require(lines == wanted, f"the log has {lines}")
-
-
-def the_longest_script(program):
-    """It is read whole, and then its first line is judged. A longer one isn't read to its end, which an
-    input without end shows."""
-    most = 268_435_456
-    too_long = b"tacd: the script could not be read, or is over 268435456 bytes long\n"
-    with tempfile.TemporaryDirectory(prefix="tacd-served-") as folder:
-        script = pathlib.Path(folder, "script")
-        for path, length, wanted in (
-            (script, most, (b"fault line 1 BadKey\n", b"", 1)),
-            (script, most + 1, (b"", too_long, 4)),
-            (pathlib.Path("/dev/zero"), None, (b"", too_long, 4)),
-        ):
-            if length:
-                with path.open("wb") as file:
-                    file.truncate(length)
-            with path.open("rb") as given:
-                run = subprocess.run([program, "replay"], stdin=given, capture_output=True)
-            came = (run.stdout, run.stderr, run.returncode)
-            require(came == wanted, f"of {length} bytes it ends by {came}")
-
-
-DENIED = "c0020204.00000001.00000017.100000110000'denied by default'"
-
-
-def is_permitted_until_denied(device, server):
-    """After the first answer another policy is loaded, and what is answered then is a denial."""
-    require(is_answered(device, ASK, PERMITTED, flag=KEPT), "bob isn't permitted at first")
-    server.process.stdin.write(b"reload\n")
-    server.process.stdin.flush()
-    permitted, denied = packet(PERMITTED, flag=KEPT), packet(DENIED)
-    until = time.monotonic() + LONGEST_WAIT
-    while time.monotonic() < until:
-        came = answer(device, packet(ASK, flag=KEPT), len(permitted))
-        if came != permitted:
-            rest = answer(device, b"", len(denied) - len(permitted))
-            return came + rest == denied
-        time.sleep(0.005)
-    return False
-
-
-def type_line(server, line, *answers):
-    """What is typed has these lines of an answer."""
-    server.process.stdin.write(f"{line}\n".encode())
-    server.process.stdin.flush()
-    for wanted in answers:
-        came = server.process.stdout.readline().decode()
-        require(came == f"{wanted}\n", f"{line} is answered by {came!r}, not by {wanted!r}")
-
-
-def make_huge(path):
-    """As many bytes as a policy may have, which take no place on the disk."""
-    path.touch(0o600)
-    with path.open("wb") as file:
-        file.truncate(268_435_456)
-
-
-def a_file_that_changes(program):
-    """The policy's file changes while a device asks, is refused, is gone, finds no memory where it is
-    opened and for its content, and is as at first again."""
-    errors = []
-    supervised = Supervised(lambda call: errors.pop() if call == OPENAT and errors else None)
-    with Server(program, before=supervised.begin) as server, supervised, connect(server) as device:
-        policy = pathlib.Path(server.folder.name, "policy")
-        policy.write_text("group ops\npermit ping\nuser bob in ops\n")
-        require(is_permitted_until_denied(device, server), "bob is answered otherwise")
-        for wanted in (
-            f"listening {server.address[1]}",
-            "ok",
-            "user bob now permits: ping",
-            "user bob now denies: show ",
-        ):
-            came = server.process.stdout.readline().decode()
-            require(came == f"{wanted}\n", f"{came!r} is printed, not {wanted!r}")
-        policy.write_text("group ops\npermit (\n")
-        type_line(server, "reload", "fault line 2 5 BadPattern 3 Unclosed at 0")
-        policy.unlink()
-        type_line(server, "reload", "unread policy: No such file or directory (os error 2)")
-        make_huge(policy)
-        errors.append(errno.ENOMEM)
-        type_line(server, "reload", "refused 12 Memory")
-        require(not errors, "the file wasn't opened")
-        limit_memory(2**27 + taken_memory(server.process.pid), server.process.pid)
-        type_line(server, "reload", "refused 12 Memory")
-        limit_memory(resource.RLIM_INFINITY, server.process.pid)
-        type_line(server, "why bob ping", "permitted by group ops rule 1")
-        policy.write_text(POLICY)
-        type_line(server, "reload", "ok", "user bob now permits: show ", "user bob now denies: ping")
-        type_line(server, "why bob ping", "denied by default")
-        printed, said = server.process.communicate(b"quit\n", LONGEST_WAIT)
-        came = (printed, said, server.process.returncode)
-        require(came == (b"", b"", 0), f"at last it ended by {came}")
-
-
-def taken_memory(process):
-    """How many bytes of addresses the process has."""
-    pages = int(pathlib.Path(f"/proc/{process}/statm").read_text().split()[0])
-    return pages * resource.getpagesize()
-
-
-def no_memory_for_a_policy(program):
-    """A server ends whose policy's file finds no memory: where it is opened, and for its content."""
-    supervised = Supervised(lambda call: errno.ENOMEM if call == OPENAT else None)
-    with Server(program, before=supervised.begin) as server, supervised:
-        told = "tacd: key: Cannot allocate memory (os error 12)\n"
-        server.ends(complained=told, status=3, is_listening=False)
-    supervised = Supervised(lambda call: errno.ENOMEM if call == OPENAT else None)
-    key = ("--key", "k")
-    with Server(program, key=key, before=supervised.begin) as server, supervised:
-        told = "tacd: policy: Cannot allocate memory (os error 12)\n"
-        server.ends(complained=told, status=3, is_listening=False)
-    with tempfile.TemporaryDirectory(prefix="tacd-served-") as folder:
-        make_huge(pathlib.Path(folder, "policy"))
-        run = subprocess.run(
-            [program, "serve", "--port", "1", "--key", "k", "policy"],
-            cwd=folder,
-            capture_output=True,
-            preexec_fn=lambda: limit_memory(2**27),
-        )
-    came = (run.stdout, run.stderr, run.returncode)
-    require(came == (b"fault Memory\n", b"tacd: memory ran out\n", 3), f"it ended by {came}")

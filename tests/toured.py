@@ -1,6 +1,5 @@
-"""The tour of examples/: what it prints, as README.md shows it too, and that a step which goes otherwise
-ends it, with its server and its folder gone. Each case is a function that raises Wrong where something
-goes otherwise."""
+"""The tour of examples/: what it prints, as README.md shows it too, and that a step which goes
+otherwise ends it, with its server and its folder gone."""
 
 import os
 import pathlib
@@ -10,8 +9,8 @@ import subprocess
 import tempfile
 import time
 
-import pages
-from cases import Case, Check, Outcome, Play, Wrong
+from lib import pages
+from lib.cases import Wrong, cases
 
 TOP = pathlib.Path(__file__).resolve().parent.parent
 TOUR = TOP / "examples/tour"
@@ -54,19 +53,6 @@ FAULTS = (
     ("console console quit", "echo ok; exit 0", "tacd console console quit"),
     ("serve", "'{program}' \"$@\"; exit 3", "tacd console console quit"),
 )
-
-
-def cases(name):
-    """Each case of this file, with the name of the function that plays it, or what goes otherwise."""
-    plays = [
-        (play.__name__, play)
-        for play in (prints_this, is_shown_by_the_readme, is_beside_the_script, a_port_is_taken, there_is_no_program)
-    ]
-    plays += [(f"{words}: {otherwise}", fault(words, otherwise, last)) for words, otherwise, last in FAULTS]
-    plays += [(f"ended by {it.name}", ended_by(it)) for it in (signal.SIGTERM, signal.SIGINT, signal.SIGHUP)]
-    for what, play in plays:
-        expected = Outcome(b"", b"", 0)
-        yield Case(f"{name}: {what}", [Check(Play(play), expected, "the tour")])
 
 
 def prints_this(program):
@@ -118,6 +104,18 @@ def there_is_no_program(program):
         ended = subprocess.run([TOUR, *words], capture_output=True, text=True, timeout=LONGEST_RUN)
         if ended.returncode != 2 or ended.stdout or not ended.stderr:
             raise Wrong(f"{words} ends with {ended.returncode}:\n{ended.stdout}{ended.stderr}")
+
+
+@cases
+def goes_otherwise():
+    for words, otherwise, last in FAULTS:
+        yield f"{words}: {otherwise}", fault(words, otherwise, last)
+
+
+@cases
+def is_ended():
+    for number in (signal.SIGTERM, signal.SIGINT, signal.SIGHUP):
+        yield f"by {number.name}", ended_by(number)
 
 
 def fault(words, otherwise, last):

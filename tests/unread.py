@@ -1,6 +1,6 @@
-"""Servers whose standard error is a pipe that is full and that nobody reads, as behind a terminal
-that was stopped. Each complaint is one that a server without such a pipe makes too, and nobody waits
-for it: devices and operators are answered. Each case is a function, as in served.py."""
+"""Servers whose standard error is a pipe that is full and that nobody reads, as behind a terminal that
+was stopped. Each complaint is one that a server without such a pipe makes too, and nobody waits for it:
+devices and operators are answered."""
 
 import contextlib
 import errno
@@ -11,31 +11,13 @@ import shutil
 import socket
 import time
 
-from cases import Case, Check, Outcome, Play
-from crowded import LOGINS, POLICY as HASHED
-from judged import WRITE, call_of
-from operated import Operator, attended, comes_to, replace, told
-from proxied import called
-from served import (
-    ASK,
-    CLOSING,
-    FDATASYNC,
-    KEY_OF_ONE,
-    LONGEST_WAIT,
-    PERMITTED,
-    SOON,
-    STRANGER,
-    UNKNOWN,
-    Server,
-    Supervised,
-    connect,
-    is_answered,
-    is_closed,
-    is_permitted,
-    packet,
-    ready,
-    require,
-)
+from lib.cases import LONGEST_WAIT, SOON, comes_to, require
+from lib.consoles import Operator, attended, told, types
+from lib.devices import ASK, CLOSING, PERMITTED, connect, is_answered, is_closed, is_permitted, packet
+from lib.judged import FDATASYNC, WRITE, Supervised, call_of
+from lib.logins import HASHED, LOGINS
+from lib.proxies import called
+from lib.servers import KEY_OF_ONE, STRANGER, UNKNOWN, Server, ready, replace, starts
 
 # How many complaints wait beside the one that is being written.
 MOST_WAITING = 64
@@ -44,23 +26,6 @@ LISTED = {
     "key": ("--devices", "devices"),
     "devices": f"device one\nat 127.0.0.1\nkey {KEY_OF_ONE.decode()}\n",
 }
-
-
-def cases(name):
-    """Each case of this file, with the name of the function that plays it."""
-    for play in (
-        strangers,
-        bad_headers,
-        logins_that_find_no_room,
-        a_log_that_takes_no_lines,
-        edits_that_are_not_kept,
-        a_policy_that_others_read,
-        a_devices_file_that_is_refused,
-        more_than_may_wait,
-        an_end_that_is_not_awaited,
-    ):
-        expected = Outcome(b"", b"", 0)
-        yield Case(f"{name}: {play.__name__}", [Check(Play(play), expected, "nobody read")])
 
 
 class Unread:
@@ -181,11 +146,8 @@ def a_log_that_takes_no_lines(program):
             require(is_permitted(server), "bob waits for the reader")
             fails.append(errno.EIO)
             require(not is_permitted(server), "a request is answered whose line isn't on the disk")
-            server.process.stdin.write(b"shadow\n")
-            server.process.stdin.flush()
-            for wanted in (f"listening {server.address[1]}\n", "none\n"):
-                came = server.process.stdout.readline().decode()
-                require(came == wanted, f"the console answers {came!r}")
+            starts(server)
+            types(server, "shadow", "none")
             unread.tells(FAILS + TAKES + FAILS + TAKES)
             server.ends("quit\n", is_listening=False)
 

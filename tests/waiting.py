@@ -1,7 +1,7 @@
 """Servers of which many things are asked at once: who has his turn when, who is woken for what, and how
 long a server waits where nothing comes. Its calls of the system are told before they are made, and are
-held or fail where a case says so. So what is to come at once does, and no case goes by how long anything
-takes. Each case is a function, as in served.py."""
+held or fail where a case says so. So what is to come at once does, and no case goes by how long
+anything takes."""
 
 import contextlib
 import errno
@@ -15,32 +15,38 @@ import threading
 import time
 import typing
 
-from cases import Case, Check, Outcome, Play
-from crowded import FAILED, LET_IN, LOGINS, is_told
-from generated import asked, given
-from judged import EPOLL_CTL, FUTEX, GOES_ON, RECEIVE, RECVFROM, SEND, SENDTO, SETSOCKOPT, WRITE, Judged
-from operated import starts
-from proxied import KEPT_IN_CLEAR, called, clear, flagged, line
-from served import (
+from lib.cases import LONGEST_WAIT, require
+from lib.consoles import typed, types
+from lib.devices import (
     ASK,
     CLOSING,
     KEPT,
-    KEY_OF_ONE,
-    LONGEST_WAIT,
     PERMITTED,
     RECORD,
     STORED,
-    STRANGER,
-    Server,
     answer,
     connect,
     is_answered,
     is_closed,
+    is_told,
     packet,
-    require,
-    typed,
-    types,
 )
+from lib.judged import (
+    EPOLL_CTL,
+    FUTEX,
+    GOES_ON,
+    RECEIVE,
+    RECVFROM,
+    SEND,
+    SENDTO,
+    SETSOCKOPT,
+    WRITE,
+    Judged,
+)
+from lib.logins import FAILED, LET_IN, LOGINS
+from lib.proxies import KEPT_IN_CLEAR, called, clear, flagged, line
+from lib.scripted import asked, given
+from lib.servers import KEY_OF_ONE, STRANGER, Server, starts
 
 # The numbers of further system calls, on x86-64.
 CLOSE, MMAP, BRK, EPOLL_WAIT, ACCEPT4 = 3, 9, 12, 232, 288
@@ -65,42 +71,6 @@ BEGIN_AS_BOB = "c0010104.00000001.0000000b.0101010103000000'bob'"
 PASSWORD_WANTED = "c0010204.00000001.00000010.0501000a0000'Password: '"
 BLUE_LAKE = "c0010304.00000001.0000000e.0009000000'blue-lake'"
 PASSED = "c0010404.00000001.00000006.010000000000"
-
-
-def cases(name):
-    """Each case of this file, with the name of the function that plays it."""
-    for play in (
-        a_flood_of_calls,
-        a_flood_beside_a_proxy,
-        where_accepting_fails,
-        who_asks_without_a_pause,
-        each_call_goes_where_the_fewest_are,
-        what_is_handed_over_at_once,
-        one_login_has_one_place,
-        logins_that_find_no_place,
-        logins_that_end_together,
-        a_second_login,
-        logins_at_each_worker,
-        a_login_of_one_who_is_gone,
-        a_login_that_takes_long,
-        a_password_is_awaited,
-        who_is_given_up,
-        a_reply_that_is_held_back,
-        a_reply_that_finds_no_room,
-        a_reply_that_is_not_taken,
-        a_reply_that_cannot_be_sent,
-        replies_go_at_once,
-        what_a_request_costs,
-        the_desk_is_taken_once,
-        an_end_with_the_last_bytes,
-        a_reset_before_the_header,
-        headers_that_are_awaited,
-        the_last_connections,
-        the_end_wakes_all,
-        the_end_closes_the_port,
-    ):
-        expected = Outcome(b"", b"", 0)
-        yield Case(f"{name}: {play.__name__}", [Check(Play(play), expected, "its devices called")])
 
 
 class Call(typing.NamedTuple):

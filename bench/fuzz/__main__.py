@@ -15,7 +15,7 @@ script on which they aren't is made smaller and printed, with both of each.
     python3 bench/fuzz selfcheck [--seed N] [--count N]
     python3 bench/fuzz show [--seed N] NUMBER
 
-The program is crates/tacd/out/tacd unless another path is given; build it by `./tacd --version`.
+The program is the one that ./tacd builds, unless a path is given.
 Script number K of a seed is the same whatever the count is: `show` prints it, and what the
 reference makes of it. 30,000 scripts, the default, take about twenty minutes of one core.
 
@@ -49,8 +49,10 @@ from generator.choices import Choices
 from generator.scripts import case
 from running import by_reference, told
 
+sys.path.append(str(pathlib.Path(__file__).resolve().parents[1]))
+from lib.program import program_at  # noqa: E402
+
 COMMANDS = ("pairs", "changes", "devices", "selfcheck", "show")
-BUILT = pathlib.Path(__file__).resolve().parents[2] / "crates/tacd/out/tacd"
 
 
 def main():
@@ -59,22 +61,22 @@ def main():
         return selfcheck.run(arguments.seed, arguments.count)
     if arguments.command == "show":
         return show(arguments.seed, arguments.number)
-    if not arguments.program.is_file():
-        sys.exit(f"{arguments.program} is not there: build it by ./tacd --version")
+    program = program_at(arguments.program)
     numbers = range(arguments.first, arguments.first + arguments.count)
     if arguments.command == "pairs":
-        return pairs.compare(arguments.program, arguments.seed, numbers)
+        return pairs.compare(program, arguments.seed, numbers)
     if arguments.command == "changes":
-        return changes.compare(arguments.program, arguments.seed, numbers)
+        return changes.compare(program, arguments.seed, numbers)
     if arguments.command == "devices":
-        return devices.compare(arguments.program, arguments.seed, numbers)
-    return compare(Program(arguments.program), arguments.seed, numbers)
+        return devices.compare(program, arguments.seed, numbers)
+    return compare(Program(program), arguments.seed, numbers)
 
 
 def read_arguments():
     words = sys.argv[1:]
     command = words.pop(0) if words and words[0] in COMMANDS else "compare"
-    reader = argparse.ArgumentParser("bench/fuzz", description=__doc__.partition("\n")[0])
+    reader = argparse.ArgumentParser("bench/fuzz", description=__doc__,
+                                     formatter_class=argparse.RawDescriptionHelpFormatter)
     reader.add_argument("--seed", type=int, default=1)
     if command == "show":
         reader.add_argument("number", type=int)
@@ -84,7 +86,7 @@ def read_arguments():
         reader.add_argument("--count", type=int, default=counts[command])
     if command in ("compare", "pairs", "changes", "devices"):
         reader.add_argument("--first", type=int, default=0)
-        reader.add_argument("program", type=pathlib.Path, nargs="?", default=BUILT)
+        reader.add_argument("program", metavar="PROGRAM", type=pathlib.Path, nargs="?")
     return reader.parse_args(words, argparse.Namespace(command=command))
 
 

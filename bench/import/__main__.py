@@ -15,7 +15,7 @@ tests/imports.py compares some such configurations, too.
     python3 bench/import garbage [PROGRAM]
     python3 bench/import files [--seed N] [--count N] [--lines N] [--together N] FOLDER
 
-The program is crates/tacd/out/tacd unless another path is given; build it by `./tacd --version`.
+The program is the one that ./tacd builds, unless a path is given.
 500 configurations with 200 lines each are the default, and take a minute.
 
 `garbage` cuts a configuration after each of its bytes, and flips a bit of each: the program has to
@@ -36,11 +36,11 @@ import tempfile
 
 import garbage
 
-TOP = pathlib.Path(__file__).resolve().parents[2]
-BUILT = TOP / "crates/tacd/out/tacd"
-sys.path.append(str(TOP / "tests"))
+sys.path.append(str(pathlib.Path(__file__).resolve().parents[1]))
 sys.dont_write_bytecode = True
+from lib.program import TOP, program_at  # noqa: E402
 
+sys.path.append(str(TOP / "tests"))
 from tac_plus.comparing import Compared  # noqa: E402
 from tac_plus.drawing import configuration, lines  # noqa: E402
 from tac_plus.meaning import Meaning  # noqa: E402
@@ -49,7 +49,7 @@ from tac_plus.meaning import Meaning  # noqa: E402
 def main():
     arguments = read_arguments()
     if arguments.command == "garbage":
-        return garbage.run(arguments.path or BUILT)
+        return garbage.run(program_at(arguments.path))
     if arguments.command == "files":
         return write_files(arguments)
     return compare_all(arguments)
@@ -75,11 +75,12 @@ def read_arguments():
 
 
 def compare_all(arguments):
+    program = program_at(arguments.path)
     differ = count = asked_for = services = 0
     with tempfile.TemporaryDirectory() as folder:
         for number in range(arguments.count):
             name = f"{arguments.seed}-{number}"
-            compared = Compared(arguments.path or BUILT, folder, configuration(name, f"c{number}-"))
+            compared = Compared(program, folder, configuration(name, f"c{number}-"))
             compared.compare(lines(name, compared.meaning, arguments.lines))
             count += compared.lines_compared
             services += compared.services_compared

@@ -7,24 +7,7 @@ exported=/var/lib/prometheus/node-exporter/tacd.prom
 told_number() { booted sed -n "s/^$1 \([0-9]*\)$/\1/p" "$exported"; }
 # Whether the file is in the text format: of each number what it is comes before it, and the last line is
 # whole.
-is_exported_whole() {
-    python3 - "$root$exported" <<'PYTHON'
-import re, sys
-
-text = open(sys.argv[1], encoding="ascii").read()
-assert text.endswith("\n")
-helped, typed = set(), set()
-for line in text.splitlines():
-    if told := re.fullmatch(r"# HELP ([a-z_]+) \S.*", line):
-        helped.add(told[1])
-    elif told := re.fullmatch(r"# TYPE ([a-z_]+) (gauge|counter)", line):
-        typed.add(told[1])
-    else:
-        told = re.fullmatch(r'([a-z_]+)(\{[^{}]*\})? [0-9]+', line)
-        assert told and told[1] in helped & typed, line
-assert {"tacd_info", "tacd_serves_edits", "tacd_log_disk_available_bytes"} <= helped
-PYTHON
-}
+is_exported_whole() { python3 "$parts/metrics.py" "$root$exported"; }
 writes_status() {
     booted systemctl reset-failed tacd-status.service 2>/dev/null || true
     booted systemctl start tacd-status.service

@@ -1,8 +1,8 @@
 """Whether devices are served inside TLS, by haproxy and stunnel in front of `tacd serve --proxy`.
 
-    python3 bench/tls [--program FILE]
+    python3 bench/tls [--program PATH]
 
-FILE is the program to try; without it ./tacd builds one. Each check is printed with what was found,
+PATH is the program to try; without it ./tacd builds one. Each check is printed with what was found,
 and with WRONG where that isn't right. Then the status is 1. It takes two minutes. The bounds are
 those of a machine that does nothing else.
 
@@ -34,47 +34,34 @@ After all of this each number of `status` is what was done.
 On Debian: apt-get install haproxy stunnel4 openssl, and jq for the page's lines of jq.
 """
 
-import argparse
 import os
 import pathlib
 import resource
 import shutil
-import subprocess
 import sys
 import tempfile
 
-import direct
-import documents
-import judging
-import through
-from certificates import Authority
-from judging import judge
-from places import IS_ROOT, Places
-from proxies import Haproxy, Stunnel
-from server import Server
+sys.path.append(str(pathlib.Path(__file__).resolve().parents[1]))
+
+import direct  # noqa: E402
+import documents  # noqa: E402
+import through  # noqa: E402
+from certificates import Authority  # noqa: E402
+from lib.judge import compare, end  # noqa: E402
+from lib.program import begin, fail, reader  # noqa: E402
+from places import IS_ROOT, Places  # noqa: E402
+from proxies import Haproxy, Stunnel  # noqa: E402
+from server import Server  # noqa: E402
 
 NEEDED = ("haproxy", "stunnel4", "openssl")
 # A connection is two files of a proxy, and stunnel takes half as many connections as files.
 FILES = 8_192
 
 
-def read_program():
-    parser = argparse.ArgumentParser(
-        prog="bench/tls", description=__doc__,
-        formatter_class=argparse.RawDescriptionHelpFormatter,
-    )
-    parser.add_argument("--program", type=pathlib.Path)
-    program = parser.parse_args().program
-    if program is None:
-        subprocess.run([documents.TOP / "tacd", "--version"], check=True, capture_output=True)
-        program = documents.TOP / "crates/tacd/out/tacd"
-    return program.resolve()
-
-
 def raise_files():
     soft, hard = resource.getrlimit(resource.RLIMIT_NOFILE)
     if hard != resource.RLIM_INFINITY and hard < FILES:
-        sys.exit(f"bench/tls: only {hard} files may be open, and it takes {FILES}")
+        fail(f"only {hard} files may be open, and it takes {FILES}")
     resource.setrlimit(resource.RLIMIT_NOFILE, (max(soft, FILES), hard))
 
 
@@ -123,12 +110,12 @@ def try_directly(server):
 
 
 def main():
+    _, program = begin(reader(__doc__))
     missing = [word for word in NEEDED if shutil.which(word) is None]
     if missing:
-        sys.exit(f"bench/tls: {', '.join(missing)} is missing")
-    program = read_program()
+        fail(f"{', '.join(missing)} is missing")
     raise_files()
-    judge("examples that docs/TLS.md doesn't have to the line", documents.undocumented(), [])
+    compare("examples that docs/TLS.md doesn't have to the line", documents.undocumented(), [])
     if not IS_ROOT:
         print("without root's rights there are no other users, no group and no chroot")
     os.umask(0o022)
@@ -139,8 +126,7 @@ def main():
         authority.issue("core-2")
         for kind in Haproxy, Stunnel:
             try_proxy(program, kind, top, authority, other)
-    print(f"{judging.failures} failures")
-    sys.exit(judging.failures > 0)
+    end()
 
 
 main()

@@ -3,9 +3,9 @@
 import pathlib
 import ssl
 import subprocess
-import sys
 
 import documents
+from lib.program import fail
 
 SERVER = "tacacs.example.net"
 # The device that the commands of docs/TLS.md speak of.
@@ -25,7 +25,7 @@ private_key = ca.key
 def run(folder, commands):
     done = subprocess.run(["sh", "-e", "-c", commands], cwd=folder, capture_output=True, text=True)
     if done.returncode != 0:
-        sys.exit(f"bench/tls: {commands}\n{done.stderr}")
+        fail(f"{commands}\n{done.stderr}")
 
 
 class Authority:

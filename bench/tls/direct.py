@@ -14,10 +14,10 @@ import headers
 from headers import (
     LOCAL, PROXY, SHOWN, TCP4, TCP6, UDP4, UNIX, UNSPEC, USED, binary, certificate, line, vector,
 )
-from judging import holds, judge, settles
+from lib.judge import compare, judge, settles
+from lib.packet import SINGLE
 from packets import (
-    CLOSED, KEPT, PERMITTED, SHOW, SINGLE, Clear, Padded, ends, is_permitted, packet, part_of,
-    reply,
+    CLOSED, KEPT, PERMITTED, SHOW, Clear, Padded, ends, is_permitted, packet, part_of, reply,
 )
 from places import IS_ROOT, STRANGER, USER, as_user
 from server import KEY, Numbers
@@ -33,7 +33,7 @@ UNVERIFIED, OTHER = "no certificate", "other certificate"
 PATIENCE = (9.5, 11.5)
 PENDING = 200
 # So many connections, after as many that warm the server up, and what they may leave behind.
-MANY, SLACK = 500, 1 << 20
+MANY, SLACK = 500, 1024  # kB
 # A server without a connection has fewer.
 FILES = 120
 
@@ -144,7 +144,7 @@ def try_headers(server):
     numbers = Numbers(server)
     for what, (data, wanted) in HEADERS.items():
         found = answered(server, data)
-        judge(f"header, {what}", found, SERVED if wanted == SERVED else CLOSED)
+        compare(f"header, {what}", found, SERVED if wanted == SERVED else CLOSED)
         if wanted == SERVED:
             numbers.served()
             numbers.told("command PASS_ADD")
@@ -159,21 +159,21 @@ def try_pieces(server):
     for what, header in ("a line", line(ANY)), ("version 2", binary(CORE_1, TELLS_NAME)):
         whole = header + request
         pieces = [whole[at : at + 1] for at in range(len(whole))]
-        judge(f"{what}, byte by byte", answered(server, b"", pieces), SERVED)
+        compare(f"{what}, byte by byte", answered(server, b"", pieces), SERVED)
         for at in 1, len(header) - 1, len(header), len(header) + 5, len(header) + 30:
             pieces = [whole[:at], whole[at:]]
-            judge(f"{what}, cut after {at} bytes", answered(server, b"", pieces), SERVED)
+            compare(f"{what}, cut after {at} bytes", answered(server, b"", pieces), SERVED)
     with connected(server) as stream:
         packets = [packet(Clear(), SHOW, n, flags=SINGLE) for n in (1, 2, 3)]
         stream.sendall(line(ANY) + b"".join(packets))
         found = [part_of(reply(stream, Clear()), lambda it: it.header.session) for _ in packets]
-        judge("three packets behind a header", (found, ends(stream)), ([1, 2, 3], KEPT))
+        compare("three packets behind a header", (found, ends(stream)), ([1, 2, 3], KEPT))
 
 
 def try_second_header(server):
     """A header is read once: whatever comes behind it is a packet."""
     numbers = Numbers(server)
-    judge("a second header", answered(server, line(ANY) + line(CORE_1)), CLOSED)
+    compare("a second header", answered(server, line(ANY) + line(CORE_1)), CLOSED)
     numbers.served()
     numbers.told("bad header")
     numbers.judge("after it")
@@ -183,10 +183,10 @@ def try_names(server):
     """A name is told as it came, and a name that is none as null."""
     for name, wanted in NAMES.items():
         count = len(server.lines())
-        judge(f"the name {name}", answered(server, binary(ANY, headers.certificate(name))), SERVED)
+        compare(f"the name {name}", answered(server, binary(ANY, headers.certificate(name))), SERVED)
         settles(lambda: len(server.lines()), count + 1)
         found = server.lines()[-1]
-        judge("its line", (found["device"], found["name"], found["tls"]),
+        compare("its line", (found["device"], found["name"], found["tls"]),
               (f"{ANY}:{headers.PORT}", "any", wanted))
 
 
@@ -226,14 +226,14 @@ def try_unfinished(server):
         begun = time.monotonic()
         found = answered(server, line(ANY))
         seconds = time.monotonic() - begun
-        holds(f"a device beside {PENDING} without a header", found == SERVED and seconds < 1,
+        judge(f"a device beside {PENDING} without a header", found == SERVED and seconds < 1,
               f"{found} after {seconds * 1000:.0f} ms")
         least, most = PATIENCE
         for what, wait in waits.items():
             found, seconds = wait.result()
-            holds(f"{what}, and then silence", found == CLOSED and least < seconds < most,
+            judge(f"{what}, and then silence", found == CLOSED and least < seconds < most,
                   f"{found} after {seconds:.1f} s")
-        judge(f"the {PENDING}", {ends(stream) for stream in pending}, {CLOSED})
+        compare(f"the {PENDING}", {ends(stream) for stream in pending}, {CLOSED})
         for stream in pending:
             stream.close()
     numbers.served()
@@ -251,14 +251,9 @@ def try_broken_off(server):
         with connected(server) as stream:
             stream.sendall(data)
             stream.shutdown(socket.SHUT_WR)
-            judge(f"{what}, and then the end", ends(stream), CLOSED)
+            compare(f"{what}, and then the end", ends(stream), CLOSED)
         numbers.refused(BAD)
     numbers.judge("after them")
-
-
-def resident(server):
-    with open(f"/proc/{server.process.pid}/statm", encoding="ascii") as file:
-        return int(file.read().split()[1]) * os.sysconf("SC_PAGE_SIZE")
 
 
 def try_memory(server):
@@ -277,14 +272,14 @@ def try_memory(server):
     grew = {}
     for what, call in ("port", by_port), ("socket", by_socket), ("bad headers", by_nobody):
         right = sum(call() for _ in range(MANY))
-        before = resident(server)
+        before = server.running.kilobytes()
         right += sum(call() for _ in range(MANY))
-        grew[what] = resident(server) - before
-        judge(f"of {2 * MANY} connections, {what}", right, 2 * MANY)
-    told = ", ".join(f"{what} {more / 1024:.0f} kB" for what, more in grew.items())
-    holds("memory", max(grew.values()) <= grew["port"] + SLACK, f"grew by {told}")
-    held = len(os.listdir(f"/proc/{server.process.pid}/fd"))
-    holds("open files", held < FILES, f"{held}")
+        grew[what] = server.running.kilobytes() - before
+        compare(f"of {2 * MANY} connections, {what}", right, 2 * MANY)
+    told = ", ".join(f"{what} {more} kB" for what, more in grew.items())
+    judge("memory", max(grew.values()) <= grew["port"] + SLACK, f"grew by {told}")
+    held = server.running.descriptors()
+    judge("open files", held < FILES, f"{held}")
 
 
 def try_told(server):
@@ -299,15 +294,15 @@ def try_told(server):
     seconds = time.monotonic() - begun
     wanted = server.number('connections_refused_total{why="bad_proxy_header"}')
     found = settles(lambda: counted(server, BAD), wanted)
-    judge("bad headers that the log counts", found, wanted)
+    compare("bad headers that the log counts", found, wanted)
     # Those before are counted by the first of these lines.
-    holds("of these in this time", found - count >= 301, f"{found - count} in {seconds:.1f} s")
+    judge("of these in this time", found - count >= 301, f"{found - count} in {seconds:.1f} s")
     lines = refused(server, BAD)
     members = {(line["device"], "name" in line, "tls" in line) for line in lines}
-    judge("whom they name", members, {("proxy", False, False)})
+    compare("whom they name", members, {("proxy", False, False)})
     times = [datetime.datetime.fromisoformat(line["time"]).timestamp() for line in lines]
     least = min(later - former for former, later in itertools.pairwise(times))
-    holds("between two such lines", least > 0.95, f"{least:.2f} s at least")
+    judge("between two such lines", least > 0.95, f"{least:.2f} s at least")
 
 
 def refused(server, why):
@@ -342,15 +337,15 @@ def reached_by(server, user, group):
 def try_file(server, group):
     """Its mode and group, and who may connect."""
     status = server.places.socket.stat()
-    judge("the socket's mode", oct(stat.S_IMODE(status.st_mode)), "0o660")
-    judge("what else is in its folder", os.listdir(server.places.folder), ["socket"])
+    compare("the socket's mode", oct(stat.S_IMODE(status.st_mode)), "0o660")
+    compare("what else is in its folder", os.listdir(server.places.folder), ["socket"])
     if not IS_ROOT:
         print("who may connect isn't tried but by root")
         return
-    judge("its group is its folder's", (server.places.socket.owner(), server.places.socket.group()),
+    compare("its group is its folder's", (server.places.socket.owner(), server.places.socket.group()),
           (USER, group))
-    judge("the proxy's group", reached_by(server, STRANGER, group), "connected")
-    judge("another user", reached_by(server, STRANGER, None), "Permission denied")
+    compare("the proxy's group", reached_by(server, STRANGER, group), "connected")
+    compare("another user", reached_by(server, STRANGER, None), "Permission denied")
 
 
 # ---- starts
@@ -376,28 +371,28 @@ def with_proxy(server, path):
 def try_starts(server):
     """What a server is told at its start that can't have its socket, or has no port."""
     folder = server.places.folder
-    judge("a second server at the socket", start_of(server, *with_proxy(server, folder / "socket")),
+    compare("a second server at the socket", start_of(server, *with_proxy(server, folder / "socket")),
           (4, "", True))
-    judge("the first one goes on", answered(server, line(ANY)), SERVED)
+    compare("the first one goes on", answered(server, line(ANY)), SERVED)
     for what, path in (
         ("a file", server.places.own / "devices"),
         ("a folder", server.places.own),
         ("in no folder", folder / "none" / "socket"),
         ("a long one", folder / ("x" * 120)),
     ):
-        judge(f"a start whose socket is {what}", start_of(server, *with_proxy(server, path)),
+        compare(f"a start whose socket is {what}", start_of(server, *with_proxy(server, path)),
               (4, "", True))
-    judge("the file is whole", (server.places.own / "devices").read_text() != "", True)
+    compare("the file is whole", (server.places.own / "devices").read_text() != "", True)
     without = [server.program, "serve", "--no-console", "--key", KEY,
                "--proxy", folder / "other", server.places.own / "policy"]
-    judge("a start without --devices", start_of(server, *without), (2, "", True))
+    compare("a start without --devices", start_of(server, *without), (2, "", True))
     neither = [server.program, "serve", "--no-console",
                "--devices", server.places.own / "devices", server.places.own / "policy"]
-    judge("a start with neither port nor socket", start_of(server, *neither), (2, "", True))
+    compare("a start with neither port nor socket", start_of(server, *neither), (2, "", True))
 
 
 def try_without_port(server):
     """A server that has no port: it prints one line, and is reached by its socket."""
     with server:
-        judge("without a port", answered(server, line(ANY)), SERVED)
+        compare("without a port", answered(server, line(ANY)), SERVED)
         server.quit()

@@ -1,9 +1,9 @@
 """What docs/TLS.md and examples/tls say, taken out to be tried."""
 
-import pathlib
 import re
 
-TOP = pathlib.Path(__file__).resolve().parents[2]
+from lib.program import TOP
+
 EXAMPLES = TOP / "examples/tls"
 PAGE = (TOP / "docs/TLS.md").read_text()
 

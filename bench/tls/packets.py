@@ -1,16 +1,18 @@
 """Packets as devices send them (RFC 8907), under a key or in clear, and what comes back."""
 
-import hashlib
-import struct
 from typing import NamedTuple
 
-HEADER_SIZE = 12
-UNENCRYPTED, SINGLE = 1, 4
-AUTHENTICATION, AUTHORISATION, ACCOUNTING = 1, 2, 3
-ASCII, PAP, CHAP = 1, 2, 3
+from lib import packet as packets
+from lib.device import received
+from lib.packet import (
+    ACCOUNT, ASCII, CHAP, CLEAR, COMMAND, HEADER_SIZE, LOGIN, PAP, VERSION, WHOLE_LOGIN, Header,
+    answer, header_of, padded, proof,
+)
+
 CLOSED, KEPT = "closed", "kept"
 # For how long a connection that isn't closed is watched.
 WATCHED = 0.5
+SOURCE = b"198.51.100.7"
 
 POLICY = """policy 3
 group ops
@@ -27,22 +29,10 @@ enable high-lake
 """
 
 
-class Header(NamedTuple):
-    version: int
-    kind: int
-    seq: int
-    flags: int
-    session: int
-    length: int
-
-    def to_bytes(self):
-        return struct.pack("!BBBBII", *self)
-
-
 class Clear:
     """Bodies as they are, inside TLS (RFC 9887)."""
 
-    FLAG = UNENCRYPTED
+    FLAG = CLEAR
 
     def carry(self, header, body):
         return body
@@ -57,12 +47,7 @@ class Padded:
         self.key = key.encode()
 
     def carry(self, header, body):
-        seed = struct.pack("!I", header.session) + self.key + bytes([header.version, header.seq])
-        digest = pad = b""
-        while len(pad) < len(body):
-            digest = hashlib.md5(seed + digest).digest()
-            pad += digest
-        return bytes(one ^ other for one, other in zip(body, pad))
+        return padded(header.to_bytes(), body, self.key)
 
 
 class Asked(NamedTuple):
@@ -72,68 +57,47 @@ class Asked(NamedTuple):
     version: int
     kind: int
     bodies: list
-    first_seq: int = 1
+    first: int = 1
     is_answered: bool = True
 
 
 # ---- bodies
 
 
-def fields(*texts):
-    return bytes(map(len, texts)), b"".join(texts)
+def start(kind, user=b"bob", data=b"", service=1):
+    return packets.start(kind, user, data, source=SOURCE, service=service)
 
 
-def start(authen_type, user=b"bob", data=b"", service=1):
-    lengths, texts = fields(user, b"tty0", b"198.51.100.7", data)
-    return bytes([1, 1, authen_type, service]) + lengths + texts
-
-
-def typed(text, aborts=False):
-    return struct.pack("!HHB", len(text), 0, aborts) + text
-
-
-def request(*arguments, flags=None):
-    """An authorisation request, or with flags an accounting request."""
-    arguments = [argument.encode() for argument in arguments]
-    lengths, texts = fields(b"bob", b"tty0", b"198.51.100.7")
-    sizes, values = fields(*arguments)
-    head = b"" if flags is None else bytes([flags])
-    return head + bytes([6, 1, 1, 1]) + lengths + bytes([len(arguments)]) + sizes + texts + values
+def request(*arguments):
+    return packets.request(b"bob", [it.encode() for it in arguments], source=SOURCE)
 
 
 def command(line):
-    word, *words = line.split(" ")
-    return request("service=shell", f"cmd={word}", *(f"cmd-arg={one}" for one in words))
+    return packets.request(b"bob", packets.command(line), source=SOURCE)
 
 
-def response(secret):
-    """Number, challenge and response of CHAP."""
-    number, challenge = b"\7", b"challenge of sixteen"
-    return number + challenge + hashlib.md5(number + secret + challenge).digest()
-
-
-def login(authen_type, data, **more):
-    return Asked(0xC1, AUTHENTICATION, [start(authen_type, data=data, **more)])
+def login(kind, data, **more):
+    return Asked(WHOLE_LOGIN, LOGIN, [start(kind, data=data, **more)])
 
 
 def ascii_login(*answers):
-    return Asked(0xC0, AUTHENTICATION, [start(ASCII, user=b""), *map(typed, answers)])
+    return Asked(VERSION, LOGIN, [start(ASCII, user=b""), *map(answer, answers)])
 
 
 def authorisation(body):
-    return Asked(0xC0, AUTHORISATION, [body])
+    return Asked(VERSION, COMMAND, [body])
 
 
 def record(flags, *arguments):
-    return Asked(0xC0, ACCOUNTING, [request("task_id=7", *arguments, flags=flags)])
+    return Asked(VERSION, ACCOUNT, [bytes([flags]) + request("task_id=7", *arguments)])
 
 
 SHOW = authorisation(command("show version"))
 PERMITTED = "010000000000"
 BAD_BODY = {
-    AUTHENTICATION: "070000080000" + b"bad body".hex(),
-    AUTHORISATION: "110000080000" + b"bad body".hex(),
-    ACCOUNTING: "0008000002" + b"bad body".hex(),
+    LOGIN: "070000080000" + b"bad body".hex(),
+    COMMAND: "110000080000" + b"bad body".hex(),
+    ACCOUNT: "0008000002" + b"bad body".hex(),
 }
 
 # All kinds of sessions, with the line of the log's type and status for each, or why it is refused.
@@ -142,7 +106,7 @@ SESSIONS = {
     "a wrong one by questions": (ascii_login(b"bob", b"red-lake"), "login FAIL"),
     "a login by PAP": (login(PAP, b"blue-lake"), "login PASS"),
     "a wrong one by PAP": (login(PAP, b"red-lake"), "login FAIL"),
-    "a login by CHAP": (login(CHAP, response(b"blue-lake")), "login PASS"),
+    "a login by CHAP": (login(CHAP, proof(b"blue-lake")), "login PASS"),
     "an enable": (login(PAP, b"high-lake", service=2), "login PASS"),
     "a login of no kind": (login(9, b"blue-lake"), "login ERROR"),
     "a command that is permitted": (SHOW, "command PASS_ADD"),
@@ -153,28 +117,18 @@ SESSIONS = {
     "a start": (record(2, "service=shell"), "account SUCCESS"),
     "a stop": (record(4, "service=shell", "cmd=show", "elapsed_time=12"), "account SUCCESS"),
     "a record of no kind": (record(0), "account ERROR"),
-    "a body that is cut off": (Asked(0xC0, ACCOUNTING, [b"\2\6\1"]), "bad body"),
-    "a type that isn't served": (Asked(0xC0, 9, [b"body"]), "unserved type"),
+    "a body that is cut off": (Asked(VERSION, ACCOUNT, [b"\2\6\1"]), "bad body"),
+    "a type that isn't served": (Asked(VERSION, 9, [b"body"]), "unserved type"),
     "a login that is given up": (
-        Asked(0xC0, AUTHENTICATION, [start(ASCII), typed(b"", aborts=True)], is_answered=False),
+        Asked(VERSION, LOGIN, [start(ASCII), answer(b"", aborts=True)], is_answered=False),
         "aborted",
     ),
-    "a packet out of turn": (SHOW._replace(first_seq=3), "out of turn"),
+    "a packet out of turn": (SHOW._replace(first=3), "out of turn"),
     "a version of its own": (SHOW._replace(version=0xD0), "bad header"),
 }
 
 
 # ---- what comes back
-
-
-def received(stream, count):
-    data = b""
-    while len(data) < count:
-        piece = stream.recv(count - len(data))
-        if not piece:
-            break
-        data += piece
-    return data
 
 
 class Reply(NamedTuple):
@@ -188,7 +142,7 @@ def reply(stream, door):
         data = received(stream, HEADER_SIZE)
         if len(data) < HEADER_SIZE:
             return CLOSED if data == b"" else f"cut off: {data.hex()}"
-        header = Header(*struct.unpack("!BBBBII", data))
+        header = header_of(data)
         return Reply(header, door.carry(header, received(stream, header.length)))
     except ConnectionError:
         return CLOSED
@@ -204,8 +158,8 @@ def part_of(came, part):
 def packet(door, asked, session, number=0, flags=0):
     """The packet of this number of a session."""
     body = asked.bodies[number]
-    seq = asked.first_seq + 2 * number
-    header = Header(asked.version, asked.kind, seq, flags | door.FLAG, session, len(body))
+    at = asked.first + 2 * number
+    header = Header(asked.version, asked.kind, at, flags | door.FLAG, session, len(body))
     return header.to_bytes() + door.carry(header, body)
 
 

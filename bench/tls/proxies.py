@@ -5,12 +5,12 @@ import shutil
 import signal
 import socket
 import subprocess
-import sys
 import time
 
 from documents import example
+from lib.program import fail
+from lib.server import free_port
 from places import FOLDER, IS_ROOT
-from server import free_port
 
 CERTIFICATES = "/etc/tacacss"
 # What Debian's haproxy.cfg has in front of the example, but for where it logs.
@@ -68,7 +68,7 @@ class Proxy:
                 return
             except OSError:
                 if self.process.poll() is not None or time.monotonic() > end:
-                    sys.exit(f"bench/tls: {words} doesn't serve: {self.output.read_text()}")
+                    fail(f"{words} doesn't serve: {self.output.read_text()}")
                 time.sleep(0.05)
 
     def __enter__(self):

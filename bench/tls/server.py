@@ -1,14 +1,14 @@
 """A server behind a proxy, its console and its log."""
 
 import json
-import random
 import re
 import socket
 import subprocess
-import sys
 import time
 
-from judging import judge, settles
+from lib import console, server as servers
+from lib.judge import compare, settles
+from lib.metrics import numbers
 from packets import POLICY
 from places import USER, as_user
 
@@ -16,76 +16,50 @@ KEY = "wintry-tundra-ridge-41"
 PATIENCE = 10
 
 
-def free_port():
-    """One that no client gets from the system while nobody listens there."""
-    while True:
-        port = random.randrange(20_000, 32_000)
-        try:
-            socket.create_server(("", port)).close()
-            return port
-        except OSError:
-            continue
-
-
 class Server:
     """`tacd serve --proxy`, with its console at a socket and a log, as the server's user."""
 
     def __init__(self, program, places, devices, *options, has_port=True):
         self.program, self.places = program, places
-        self.port = free_port() if has_port else None
+        self.port = servers.free_port() if has_port else None
         self.options = options
         places.write("devices", devices)
         places.write("policy", POLICY)
-        self.process = None
-
-    def words(self):
-        places = self.places
-        port = [] if self.port is None else ["--port", str(self.port)]
-        return [self.program, "serve", *port, "--proxy", places.socket,
-                "--devices", places.own / "devices", "--console", places.console,
-                "--log", places.log, *self.options, places.own / "policy"]
+        self.running = None
 
     def start(self):
-        self.process = subprocess.Popen(
-            self.words(), cwd=self.places.own, stdin=subprocess.DEVNULL, stdout=subprocess.PIPE,
-            stderr=open(self.places.own / "said", "ab"), text=True, **as_user(USER),
-        )
-        wanted = [] if self.port is None else [f"listening {self.port}\n"]
-        wanted.append(f"listening {self.places.socket}\n")
-        printed = [self.process.stdout.readline() for _ in wanted]
-        if printed != wanted:
-            self.process.kill()
-            said = (self.places.own / "said").read_text()
-            sys.exit(f"bench/tls: the server printed {printed}, and not {wanted}\n{said}")
+        places = self.places
+        words = ["--proxy", places.socket, "--devices", places.own / "devices",
+                 "--console", places.console, "--log", places.log, *self.options]
+        self.running = servers.Server(
+            self.program, *words, places.own / "policy", port=self.port,
+            has_port=self.port is not None, cwd=places.own, stdin=subprocess.DEVNULL, **as_user(USER),
+        ).started()
 
     def __enter__(self):
         self.start()
         return self
 
     def __exit__(self, *_):
-        self.process.kill()
-        self.process.wait()
-        self.process.stdout.close()
+        self.running.kill()
 
     def told(self, *line):
         """What the console answers to a line."""
-        words = [self.program, "console", self.places.console, *line]
-        done = subprocess.run(words, capture_output=True, text=True, check=False, timeout=60)
+        done = console.client(self.program, self.places.console, *line)
         return done.stdout or done.stderr
 
     def reload_devices(self, devices):
         self.places.write("devices", devices)
         answer = self.told("reload", "devices")
-        judge("reload devices", answer.partition(":")[0], "devices ok")
+        compare("reload devices", answer.partition(":")[0], "devices ok")
 
     def quit(self):
-        judge("quit", self.told("quit"), "ok\n")
-        judge("the server's status", self.process.wait(PATIENCE), 0)
+        compare("quit", self.told("quit"), "ok\n")
+        compare("the server's status", self.running.ended(PATIENCE).status, 0)
 
     def status(self):
         """The numbers of `status`, by their names."""
-        lines = [line for line in self.told("status").splitlines() if not line.startswith("#")]
-        return {line.rpartition(" ")[0]: int(line.rpartition(" ")[2]) for line in lines}
+        return numbers(self.told("status"))
 
     def number(self, name):
         return self.status().get(f"tacd_{name}")
@@ -138,7 +112,7 @@ class Numbers:
         found = settles(self.found, self.wanted)
         off = [f"{name} is {found.get(name)} and not {self.wanted.get(name)}"
                for name in {**self.wanted, **found} if found.get(name) != self.wanted.get(name)]
-        judge(f"status, {what}", "; ".join(off) or "exact", "exact")
+        compare(f"status, {what}", "; ".join(off) or "exact", "exact")
         self.wanted = found
 
 

@@ -11,11 +11,11 @@ import time
 
 import documents
 from certificates import DEVICE, SERVER
-from judging import holds, judge, settles
+from lib.judge import compare, judge, settles
+from lib.packet import ACCOUNT, CLEAR, COMMAND, LOGIN, PAP, SINGLE
 from packets import (
-    ACCOUNTING, AUTHENTICATION, AUTHORISATION, BAD_BODY, CLOSED, KEPT, PAP, PERMITTED, SESSIONS,
-    SHOW, SINGLE, UNENCRYPTED, Clear, Padded, ends, is_permitted, login, packet, part_of, replies,
-    reply,
+    BAD_BODY, CLOSED, KEPT, PERMITTED, SESSIONS, SHOW, Clear, Padded, ends, is_permitted, login,
+    packet, part_of, replies, reply,
 )
 from proxies import has_ipv6
 from server import KEY, Numbers, since
@@ -66,7 +66,7 @@ class Trial:
         self.pairs = {name: authority.pair(name) for name in ("core-1", "core-2")}
 
     def judge(self, what, found, wanted):
-        judge(f"{self.name}, {what}", found, wanted)
+        compare(f"{self.name}, {what}", found, wanted)
 
     def device(self, source=ANY, pair="core-1", context=None, session=None, host="127.0.0.1"):
         """A connection inside TLS from this address, with this certificate."""
@@ -227,6 +227,20 @@ def turned_away(trial, source, pair, context=None):
             return CLOSED, address
 
 
+def try_without_key(trial):
+    """A device that has no key, at the port."""
+    count = len(trial.server.lines())
+    with trial.server.connection(CORE_1) as stream:
+        stream.sendall(packet(Padded(KEY), SHOW, 1))
+        trial.judge("at the port, a device without a key", reply(stream, Padded(KEY)), CLOSED)
+        line = (since(trial.server.lines, count) or [{}])[0]
+        line.pop("time", None)
+        host, port = stream.getsockname()
+        wanted = {"device": f"{host}:{port}", "name": "core-1", "type": "refused",
+                  "why": "no key", "count": 1}
+        trial.judge("its line", json.dumps(line), json.dumps(wanted))
+
+
 def try_refused(trial):
     """The devices' file decides, by the address and the name."""
     named = trial.proxy.tells_names
@@ -248,17 +262,8 @@ def try_refused(trial):
         if name is None:
             wanted = {key: wanted[key] for key in wanted if key not in ("name", "tls")}
         trial.judge("its line", json.dumps(line), json.dumps(wanted))
-    count = len(trial.server.lines())
-    with trial.server.connection(CORE_1) as stream:
-        stream.sendall(packet(Padded(KEY), SHOW, 1))
-        trial.judge("at the port, a device without a key", reply(stream, Padded(KEY)), CLOSED)
-        numbers.refused("no key")
-        line = (since(trial.server.lines, count) or [{}])[0]
-        line.pop("time", None)
-        host, port = stream.getsockname()
-        wanted = {"device": f"{host}:{port}", "name": "core-1", "type": "refused",
-                  "why": "no key", "count": 1}
-        trial.judge("its line", json.dumps(line), json.dumps(wanted))
+    try_without_key(trial)
+    numbers.refused("no key")
     with trial.device(CORE_1) as stream:
         trial.judge("a device by its own certificate", is_permitted_or_closed(stream), named)
     if named:
@@ -336,11 +341,11 @@ def try_few(trial):
 
 
 def flag(one):
-    return one.header.flags & UNENCRYPTED
+    return one.header.flags & CLEAR
 
 
 def without_flag(one):
-    return one.header._replace(flags=one.header.flags & ~UNENCRYPTED), one.body.hex()
+    return one.header._replace(flags=one.header.flags & ~CLEAR), one.body.hex()
 
 
 def body(one):
@@ -417,20 +422,20 @@ def try_unflagged(trial):
     """A packet without the flag is told ERROR, with the flag, and its connection closes."""
     numbers = trial.numbers()
     for kind, asked in (
-        (AUTHENTICATION, login(PAP, b"blue-lake")),
-        (AUTHORISATION, SHOW),
-        (ACCOUNTING, SESSIONS["a start"][0]),
+        (LOGIN, login(PAP, b"blue-lake")),
+        (COMMAND, SHOW),
+        (ACCOUNT, SESSIONS["a start"][0]),
     ):
         for flags in 0, SINGLE:
             for what, door in ("in clear", Clear()), ("under a key", Padded(KEY)):
                 with trial.device(BOTH) as stream:
                     data = bytearray(packet(door, asked, 5, flags=flags))
-                    data[3] &= ~UNENCRYPTED
+                    data[3] &= ~CLEAR
                     stream.sendall(data)
                     found = part_of(reply(stream, Clear()), lambda one: (flag(one), body(one)))
                     after = ends(stream)
                 trial.judge(f"type {kind} without the flag, {what}, flags {flags}",
-                            (found, after), ((UNENCRYPTED, BAD_BODY[kind]), CLOSED))
+                            (found, after), ((CLEAR, BAD_BODY[kind]), CLOSED))
     numbers.served(12)
     numbers.told("bad body", 12)
     with trial.device(BOTH) as stream:
@@ -438,10 +443,10 @@ def try_unflagged(trial):
         stream.sendall(packet(Clear(), asked, 6, flags=SINGLE))
         question = part_of(reply(stream, Clear()), body)
         data = bytearray(packet(Clear(), asked, 6, 1, SINGLE))
-        data[3] &= ~UNENCRYPTED
+        data[3] &= ~CLEAR
         stream.sendall(data)
         found = question[:2], part_of(reply(stream, Clear()), body), ends(stream)
-        trial.judge("an answer without the flag", found, ("04", BAD_BODY[AUTHENTICATION], CLOSED))
+        trial.judge("an answer without the flag", found, ("04", BAD_BODY[LOGIN], CLOSED))
     numbers.served()
     numbers.told("bad body")
     numbers.judge("after them")
@@ -513,7 +518,7 @@ def silence(trial):
 def try_silence(trial):
     data, seconds = silence(trial)
     least, most = SILENT
-    holds(f"{trial.name}, a silent device", data == b"" and least < seconds < most,
+    judge(f"{trial.name}, a silent device", data == b"" and least < seconds < most,
           f"is closed after {seconds:.1f} s")
 
 
@@ -573,28 +578,28 @@ def try_checks(trial, proxy):
     with contextlib.ExitStack() as stack:
         stack.push(proxy.__exit__)
         time.sleep(3)
-        judge("haproxy, its checks", "DOWN" in proxy.says(), False)
+        compare("haproxy, its checks", "DOWN" in proxy.says(), False)
         numbers.judge("after haproxy's checks")
-        judge("haproxy, lines of its checks", trial.server.lines()[count:], [])
+        compare("haproxy, lines of its checks", trial.server.lines()[count:], [])
         checked = Trial(trial.server, proxy, trial.authority)
         with checked.device() as stream:
-            judge("haproxy, a device beside them", is_permitted(stream), True)
+            compare("haproxy, a device beside them", is_permitted(stream), True)
 
 
 def try_restart(trial):
     """The server stops and is killed, and the next one is reached by the same proxy."""
     server = trial.server
-    for what, stop in ("by quit", server.quit), ("by SIGKILL", lambda: server.process.kill()):
+    for what, stop in ("by quit", server.quit), ("by SIGKILL", server.running.kill):
         with trial.device() as stream:
             trial.judge(f"before an end {what}", is_permitted(stream, flags=SINGLE), True)
             stop()
-            server.process.wait(10)
+            server.running.ended(10)
             trial.judge("its connection", ends(stream), CLOSED)
         trial.judge("the socket's file is there still", server.places.socket.is_socket(), True)
         begun = time.monotonic()
         trial.judge("a device meanwhile", turned_away(trial, ANY, DEVICE)[0], CLOSED)
         seconds = time.monotonic() - begun
-        holds(f"{trial.name}, that", seconds < 5, f"took {seconds:.1f} s")
+        judge(f"{trial.name}, that", seconds < 5, f"took {seconds:.1f} s")
         told = " SC " if trial.proxy.tells_names else "s_connect:"
         found = settles(lambda: told in trial.proxy.says(), True)
         trial.judge(f"its log has '{told}'", found, True)

@@ -2,7 +2,7 @@
 
 import typing
 
-from cases import Mistake
+from .cases import Mistake
 
 # The picture of the end of a text, and of each other control character.
 END = "\u2403"

@@ -13,7 +13,7 @@ import socket
 import struct
 import threading
 
-from cases import Wrong
+from .cases import Wrong
 
 # The numbers of system calls.
 WRITE, SENDTO, RECVFROM, SHUTDOWN, BIND, LISTEN, SETSOCKOPT, FLOCK = 1, 44, 45, 48, 49, 50, 54, 73
@@ -150,6 +150,22 @@ class Judged:
             return self.judge(call)
         except Exception as failure:  # of any kind: the process waits for what comes of its call
             self.failure = self.failure or failure
+
+
+class Supervised(Judged):
+    """A process of which two kinds of calls are told, by their numbers alone: those that put a file on
+    the disk, and those that open what is read, but for what the program's loader opens. They fail with
+    the error that is answered, if one is."""
+
+    def __init__(self, error_of):
+        reads = os.O_RDONLY | os.O_NOCTTY | os.O_CLOEXEC
+
+        def judge(call):
+            if call.number == OPENAT and call.arguments[2] & 0xFFFFFFFF != reads:
+                return None
+            return -(error_of(call.number) or 0) or None
+
+        super().__init__(judge, FDATASYNC, OPENAT)
 
 
 def take_quick_clock(process):

@@ -4,7 +4,7 @@ whether what came is what a page shows. bench/docs says how a page is written.""
 import re
 import typing
 
-from cases import Mistake
+from .cases import Mistake
 
 FENCE = re.compile(r"^( *)(`{3,})([^`]*)$")
 # What begins a line of output all the same: comments of the format in which a server tells how it is.

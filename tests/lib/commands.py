@@ -3,8 +3,8 @@
 import re
 import shlex
 
-from cases import Case, Check, File, Mistake, Outcome, Run
-from paragraphs import bare, paragraphs, plain
+from .cases import Case, Check, File, Mistake, Outcome, Run
+from .paragraphs import bare, paragraphs, plain
 
 FILE = re.compile("(open )?file ([^ /]+)")
 FOLDER = re.compile("folder ([^ /.]+)")

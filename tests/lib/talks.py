@@ -4,9 +4,9 @@ import itertools
 import re
 import typing
 
-from cases import Case, Mistake, replay_check
-from notation import has_packets, spelled
-from paragraphs import Line, bare, paragraphs, plain
+from .cases import Case, Mistake, replay_check
+from .notation import has_packets, spelled
+from .paragraphs import Line, bare, paragraphs, plain
 
 PRINTED = ("reply ", "closed ", "fault ")
 EVENTS = ("open", "packet", "bytes", "pieces", "lost")

@@ -1,6 +1,6 @@
 """Reads a script and the output that is stored beside it."""
 
-from cases import Case, Mistake, replay_check
+from .cases import Case, Mistake, replay_check
 
 
 def read_script(path, name):
