@@ -225,6 +225,31 @@ def the_longest_patterns(program):
     )
 
 
+def the_longest_commands(program):
+    """A pattern denies a command of 394 bytes. From a longer one on all is denied: its rules would else
+    permit what one that denies keeps out."""
+    last = "cmd = last { permit .* }"
+    for length, rules, policy, is_long in (
+        (394, "permit ^$ deny \\d permit .*", "permit {0}( )?\ndeny {0}( .*)?\n", False),
+        (395, "permit ^$ permit ^()$", "deny .*\n", True),
+        (396, "permit ^$ deny \\d", "deny .*\n", True),
+        (400, "permit .*", "deny .*\n", True),
+    ):
+        name = "c" * length
+        made(
+            program,
+            f"user = bob {{\ncmd = {name} {{ {rules} }}\n{last} }}\n",
+            f"policy 2\nuser bob\n{policy.format(name)}"
+            + ("" if is_long else "permit last( .*)?\n"),
+            "",
+            "conf line 1: 'bob' has a command too long for a pattern: the rest is left out and denied\n"
+            if is_long
+            else "conf line 2: deny '\\d': no pattern has this letter after a '\\':"
+            " the command is denied from here on\n",
+            5,
+        )
+
+
 def counted(line, rule):
     """What is told of a rule with a count."""
     why = "older expressions have no counts, and take '{' as itself: that reading is left out"

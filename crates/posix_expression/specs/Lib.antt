@@ -5,3 +5,4 @@ pub mod Memory
 pub mod Reading
 pub mod Writing
 pub mod Searched
+pub mod Gathered

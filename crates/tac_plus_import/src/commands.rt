@@ -1,128 +1,30 @@
 //! The rules that a command's block becomes.
 
-ghost use Rattle.std.specs.Prelude.{◌≡◌, ◌↔◌, ◌⊎◌, ℕ, List, IfOk, IfSome, option_map};
-ghost use Rattle.posix_expression.specs.Finding.{Finds};
-ghost use Rattle.posix_expression.specs.Searched.{searched};
-ghost use Rattle.posix_expression.specs.Writing.{either as either_of};
+ghost use Rattle.std.specs.Prelude.{◌≡◌, false, true, List, IfOk, IfErr, OnOk, IsOk, IsErr};
+ghost use Rattle.basics.specs.Memory.{Except};
+ghost use Rattle.posix_expression.specs.Gathered.{lacks};
+ghost use Rattle.posix_expression.specs.Memory.{is_memory};
+ghost use Rattle.posix_expression.specs.Syntax.{blank};
+ghost use Rattle.posix_expression.specs.Writing.{pattern_for};
+ghost use Rattle.tac_plus_import.specs.declared.block.PolicyRule.{PolicyRule as PolicyRuleValue};
+ghost use Rattle.tac_plus_import.specs.Blocks.{CautiousLaw, IsSure};
+ghost use Rattle.tac_plus_import.specs.Drafts.{Adds, Ends, Keeps, Tells, told, KeptLaw};
+ghost use Rattle.tac_plus_import.specs.Joining.{AreAdded, AreSoFar, is_over};
+ghost use Rattle.tac_plus_import.specs.Rules.{Says};
 
+use crate::block::{Block, PolicyRule, ran_out};
 use crate::draft::Draft;
+use crate::remark::What;
 use pol_names::Verdict;
-use pol_pattern::Pattern;
-use posix_expression::{Older, Search, Unsaid};
-use std::alloc::{AllocError, Global};
+use posix_expression::{Older, Unsaid};
 use tac_plus_file::{Command, Rule};
 
-/// What is searched for by rules of one verdict that stand one after another.
-pub(crate) struct Pending {
-    verdict: Verdict,
-    search: Search,
-}
-
-// By hand, so that a proof of an owner has one call at each exit, not a drop of each field.
-impl Drop for Pending {
-    fn drop(self) {
-        let Pending {
-            verdict: _,
-            search: _,
-        } = self;
-    }
-}
-
-impl Pending {
-    // What is found where either is, if both have one verdict and one pattern may say both.
-    fn joined(
-        &self,
-        alloc: Global,
-        verdict: Verdict,
-        search: &Search,
-    ) -> Result<Option<Search>, AllocError>
-        ensures alike { IfOk result
-            (λ both. IfSome both (λ found. self.now.verdict ≡ verdict)) }
-        ensures exact { self.now.verdict ≡ verdict → IfOk result (λ both. option_map searched both
-            ≡ either_of (searched self.now.search) (searched search.now)) }
-        ensures found { IfOk result (λ both. IfSome both (λ found. (arguments : List ℕ)
-            → Finds (searched found) arguments
-            ↔ (Finds (searched self.now.search) arguments
-            ⊎ Finds (searched search.now) arguments))) }
-    {
-        if self.verdict != verdict {
-            return Ok(None);
-        }
-        self.search.or(alloc, search)
-    }
-}
-
 impl Draft {
-    // The pattern of a command's lines in whose arguments the search is found, or why there is none.
-    fn pattern_of(&mut self, name: &[u8], search: &Search) -> Result<Pattern, Unsaid> {
-        let pattern = search.pattern(self.alloc, name);
-        if let Err(Unsaid::Memory) = pattern {
-            self.policy.cut();
-        }
-        pattern
-    }
-
-    // What a rule searches for, if a policy may have the pattern.
-    fn search_of(&mut self, name: &[u8], rule: &Rule) -> Result<Search, Unsaid> {
-        let search = Search::read(self.alloc, rule.expression.as_slice())?;
-        let _ = self.pattern_of(name, &search)?;
-        Ok(search)
-    }
-
-    // Adds a rule about what is searched for.
-    fn push_search(&mut self, verdict: Verdict, name: &[u8], search: &Search) {
-        if let Ok(pattern) = self.pattern_of(name, search) {
-            self.push_rule(verdict, pattern.source());
-        }
-    }
-
-    // Denies all lines of a command that no rule decided.
-    fn deny_command(&mut self, name: &[u8]) {
-        self.push_search(Verdict::Deny, name, &Search::everything());
-    }
-
-    // Adds the rule that is pending.
-    fn push_pending(&mut self, name: &[u8]) {
-        if let Some(pending) = self.pending.take() {
-            self.push_search(pending.verdict, name, &pending.search);
-        }
-    }
-
-    // What is found where either is, if both have one verdict and a policy may have the pattern.
-    fn either(
-        &mut self,
-        name: &[u8],
-        before: &Pending,
-        verdict: Verdict,
-        search: &Search,
-    ) -> Option<Search> {
-        let both = match before.joined(self.alloc, verdict, search) {
-            Ok(both) => both?,
-            Err(_) => {
-                self.policy.cut();
-                return None;
-            }
-        };
-        if self.pattern_of(name, &both).is_err() {
-            return None;
-        }
-        Some(both)
-    }
-
-    // One more rule, which is pending from now on, with the one before it if one pattern says both.
-    fn take_search(&mut self, name: &[u8], verdict: Verdict, search: Search) {
-        let mut search = search;
-        if let Some(before) = self.pending.take() {
-            match self.either(name, &before, verdict, &search) {
-                Some(both) => search = both,
-                None => self.push_search(before.verdict, name, &before.search),
-            }
-        }
-        self.pending = Some(Pending { verdict, search });
-    }
-
     // Tells of a rule.
-    fn tell_rule(&mut self, rule: &Rule, why: &str, after: &str) {
+    fn tell_rule(&mut self, rule: &Rule, why: &str, after: &str)
+        ensures keeps { Keeps self.old self.new }
+        ensures tells { Tells self.old self.new }
+    {
         let before = match rule.verdict {
             Verdict::Permit => "permit ",
             Verdict::Deny => "deny ",
@@ -132,7 +34,10 @@ impl Draft {
     }
 
     // That a rule can't be said.
-    fn tell_unsaid(&mut self, rule: &Rule, why: Unsaid) {
+    fn tell_unsaid(&mut self, rule: &Rule, why: Unsaid)
+        ensures keeps { Keeps self.old self.new }
+        ensures tells { Tells self.old self.new }
+    {
         let after = match rule.verdict {
             Verdict::Permit => ": left out",
             Verdict::Deny => ": the command is denied from here on",
@@ -141,55 +46,117 @@ impl Draft {
     }
 
     // That older expressions read a rule otherwise, if they do. It is said as the C library reads it.
-    fn tell_older(&mut self, rule: &Rule) {
+    fn tell_older(&mut self, rule: &Rule)
+        ensures { Keeps self.old self.new }
+    {
         if let Some(older) = Older::find(rule.expression.as_slice()) {
             self.tell_rule(rule, older.text(), ": that reading is left out");
         }
     }
 
-    // Adds the rules of a command, but for one that is pending, and answers whether they decide all
-    // its lines. A rule that permits and can't be said is left out. One that denies has to keep what
-    // follows it from permitting, so the command is denied from there on. Where the subject may have
-    // no more rules, the rest isn't looked at.
-    fn push_rules(&mut self, command: &Command) -> bool {
-        let name = command.name.as_slice();
-        'rules: for rule in &command.rules {
-            if self.is_full {
-                return false;
+    // Adds the rules of a block to those of a policy, and answers whether these decide all lines of
+    // the command. A rule that permits and can't be said is left out. One that denies has to keep
+    // what follows it from permitting, so the command is denied from there on. Where the subject
+    // may have no more rules, the rest isn't looked at.
+    fn add_rules(&mut self, block: &mut Block, rules: &[Rule]) -> Result<bool, Unsaid>
+        ensures added { IfOk result
+            (λ all. AreAdded self.old self.new block.old block.new rules.now all) }
+        ensures memory { IfErr result (λ why. is_memory why ≡ true) }
+    {
+        let room = self.room_for_rules();
+        'rules: for rule in rules {
+            if block.has_more_than(room) {
+                return Ok(false);
             }
             self.tell_older(rule);
-            match self.search_of(name, rule) {
-                Ok(search) => {
-                    let decides_all = search.is_everything();
-                    self.take_search(name, rule.verdict, search);
-                    if decides_all {
-                        return true;
-                    }
-                }
+            match block.add(rule) {
+                Ok(true) => return Ok(true),
+                Ok(false) => {}
                 Err(why) => {
-                    if let Unsaid::Memory = why {
-                        self.policy.cut();
+                    if ran_out(why) {
+                        return Err(why);
                     }
                     self.tell_unsaid(rule, why);
                     if rule.verdict == Verdict::Deny {
-                        self.push_pending(name);
-                        self.deny_command(name);
-                        return true;
+                        block.deny_rest()?;
+                        return Ok(true);
                     }
                 }
             }
         }
-        false
+        Ok(false)
+    }
+
+    // The rules that say what a block does, or why no policy has rules about all its lines.
+    fn rules_of(
+        &mut self,
+        command: &Command,
+        is_decided_below: bool,
+    ) -> Result<Vec<PolicyRule>, Unsaid>
+        ensures said { IfOk result (λ it. (rules : List PolicyRuleValue)
+            × Says command.now.name command.now.rules.items is_decided_below rules
+            × AreSoFar self.old it.items rules) }
+        ensures sure { IfOk result (λ it. is_over self.old it.items ≡ false
+            → self.old.is_quiet ≡ false → lacks self.new.policy ≡ false
+            → told self.new ≡ told self.old
+            → IsSure command.now.name command.now.rules.items) }
+        ensures keeps { OnOk result (Keeps self.old self.new) }
+        ensures able { OnOk result (IsOk (pattern_for command.now.name blank)) }
+        ensures unsaid { IfErr result (λ why. Except (is_memory why)
+            ((pattern_for command.now.name blank ≡ Err why) × (self.new ≡ self.old))) }
+    {
+        let mut block = Block::new(self.alloc, command.name.as_slice())?;
+        let decides_all = self.add_rules(&mut block, &command.rules)?;
+        let rules = block.into_rules(is_decided_below && !decides_all)?;
+        Ok(rules)
+    }
+
+    // Writes rules, as far as the subject may have them.
+    fn push_rules(&mut self, rules: &[PolicyRule])
+        ensures tells { told self.new ≡ told self.old }
+        ensures adds { lacks self.new.policy ≡ false → Adds self.old rules.now self.new }
+    {
+        'rules: for rule in rules {
+            self.push_rule(rule.verdict, rule.pattern.source());
+        }
     }
 
     /// Adds the rules of a command. Where others may decide on it below, its last rule denies what
-    /// none of them decides.
-    pub(crate) fn push_command(&mut self, command: &Command, is_decided_below: bool) {
-        let name = command.name.as_slice();
-        let decides_all = self.push_rules(command);
-        self.push_pending(name);
-        if is_decided_below && !decides_all {
-            self.deny_command(name);
+    /// none of them decides. Where no pattern is as long as one that denies the command, all else is
+    /// denied.
+    pub(crate) fn push_command(&mut self, command: &Command, is_decided_below: bool)
+        // Rules are added that say what the block does, as many as the subject may have.
+        ensures said { IsOk (pattern_for command.now.name blank) → lacks self.new.policy ≡ false
+            → (rules : List PolicyRuleValue)
+            × Says command.now.name command.now.rules.items is_decided_below rules
+            × Adds self.old rules self.new }
+
+        // Where no pattern denies the command, all else is denied.
+        ensures denied { IsErr (pattern_for command.now.name blank)
+            → lacks self.new.policy ≡ false → Ends self.old self.new }
+
+        // Unless something is told, what the block answers doesn't depend on what can't be said.
+        ensures sure { self.old.is_quiet ≡ false → lacks self.new.policy ≡ false
+            → self.new.is_full ≡ false → told self.new ≡ told self.old
+            → IsSure command.now.name command.now.rules.items }
+
+        // What these rules permit the block permits, also where not all are written, and whatever
+        // an expression finds that can't be said.
+        ensures kept { KeptLaw }
+        ensures law { CautiousLaw }
+    {
+        if self.is_full {
+            return;
+        }
+        match self.rules_of(command, is_decided_below) {
+            Ok(rules) => self.push_rules(&rules),
+            Err(why) => {
+                if ran_out(why) {
+                    self.policy.cut();
+                } else {
+                    self.deny_rest(What::LONG_COMMAND);
+                }
+            }
         }
     }
 }

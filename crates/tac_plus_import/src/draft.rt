@@ -1,6 +1,5 @@
 //! A policy that is written, and what is told meanwhile.
 
-use crate::commands::Pending;
 use crate::importing::Import;
 use crate::remark::{Remark, What};
 use basics::is_symbol;
@@ -33,10 +32,9 @@ pub(crate) struct Draft {
     /// How many lines about services the present subject has, and how many rules.
     pub(crate) lines: usize,
     rules: usize,
-    /// Whether there were more than a subject may have.
+    /// Whether all else is denied, since more can't be said, and what is told of that.
     pub(crate) is_full: bool,
-    /// What rules search for that stand one after another and aren't written yet.
-    pub(crate) pending: Option<Pending>,
+    pub(crate) full: What,
 }
 
 // By hand, so that a proof of an owner has one call at each exit, not a drop of each field.
@@ -53,7 +51,7 @@ impl Drop for Draft {
             lines: _,
             rules: _,
             is_full: _,
-            pending: _,
+            full: _,
         } = self;
     }
 }
@@ -77,6 +75,11 @@ pub(crate) fn add_line(text: &mut Text, parts: &[&[u8]]) {
 }
 
 impl Draft {
+    ghost use Rattle.std.specs.Prelude.{◌≡◌, ◌-◌, false, ◌∷◌, []};
+    ghost use Rattle.posix_expression.specs.Gathered.{gathered, lacks};
+    ghost use Rattle.tac_plus_import.specs.Drafts.{Adds, Ends, Keeps, Tells};
+    ghost use Rattle.tac_plus_import.specs.Joining.{of_verdict};
+
     pub(crate) fn new(alloc: Global) -> Draft {
         Draft {
             alloc,
@@ -89,7 +92,7 @@ impl Draft {
             lines: 0,
             rules: 0,
             is_full: false,
-            pending: None,
+            full: What::TOO_MANY_RULES,
         }
     }
 
@@ -101,7 +104,10 @@ impl Draft {
     }
 
     /// The bytes of a text. If it lacks something, the policy does.
-    pub(crate) fn bytes_of(&mut self, text: Text) -> Vec<u8> {
+    pub(crate) fn bytes_of(&mut self, text: Text) -> Vec<u8>
+        ensures keeps { Keeps self.old self.new }
+        ensures remarks { self.new.remarks ≡ self.old.remarks }
+    {
         if text.is_cut() {
             self.policy.cut();
         }
@@ -116,7 +122,10 @@ impl Draft {
         word: &[u8],
         after: &[&str],
         is_left_out: bool,
-    ) {
+    )
+        ensures keeps { Keeps self.old self.new }
+        ensures tells { Tells self.old self.new }
+    {
         if self.is_quiet {
             return;
         }
@@ -147,24 +156,40 @@ impl Draft {
     }
 
     /// Denies all that was not decided so far, since more can't be said.
-    pub(crate) fn deny_rest(&mut self) {
+    pub(crate) fn deny_rest(&mut self, told: What)
+        ensures remarks { self.new.remarks ≡ self.old.remarks }
+        ensures ends { lacks self.new.policy ≡ false → Ends self.old self.new }
+    {
         if !self.is_full {
             self.is_full = true;
+            self.full = told;
             self.policy.add(b"deny .*\n");
         }
     }
 
+    /// How many more rules the subject may have.
+    pub(crate) fn room_for_rules(&self) -> usize
+        ensures { result ≡ 255 - self.now.rules }
+    {
+        MOST_RULES.saturating_sub(self.rules)
+    }
+
     /// One more rule. Where a subject may have no more, everything else is denied.
-    pub(crate) fn push_rule(&mut self, verdict: Verdict, pattern: &[u8]) {
+    pub(crate) fn push_rule(&mut self, verdict: Verdict, pattern: &[u8])
+        ensures remarks { self.new.remarks ≡ self.old.remarks }
+        ensures adds { lacks self.new.policy ≡ false
+            → Adds self.old (of_verdict verdict pattern.now ∷ []) self.new }
+    {
         if self.is_full {
             return;
         }
         if self.rules >= MOST_RULES {
-            return self.deny_rest();
+            return self.deny_rest(What::TOO_MANY_RULES);
         }
-        self.rules = self.rules.saturating_add(1);
+        self.rules += 1;
         self.policy.add(verdict.keyword().as_bytes());
-        add_line(&mut self.policy, &[pattern]);
+        self.policy.add(pattern);
+        self.policy.push(b'\n');
     }
 
     /// The policy, in the least version that has all of it, and what was told, by lines; with what is
@@ -185,7 +210,7 @@ impl Draft {
             lines: _,
             rules: _,
             is_full: _,
-            pending: _,
+            full: _,
         } = self;
         let mut policy = Text::new(alloc);
         policy.add(if is_third {

@@ -1,6 +1,7 @@
 //! What of a file of tac_plus F4.0.4 a policy says, and what it can't say.
 #![tactic(auto)]
 
+mod block;
 mod chain;
 mod commands;
 mod draft;

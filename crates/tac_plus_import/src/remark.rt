@@ -95,6 +95,10 @@ impl What {
         " has over 255 rules: the rest is left out and denied",
     );
 
+    pub(crate) const LONG_COMMAND: What = What::LeftOut(
+        " has a command too long for a pattern: the rest is left out and denied",
+    );
+
     pub(crate) const TOO_MANY_LINES: What = What::LeftOut(
         " is beyond the 64th line about services: left out",
     );

@@ -80,7 +80,7 @@ fn write_rules(draft: &mut Draft, chain: &[&Subject], groups: &[&Subject], stand
     }
     push_all(draft, own, groups, standing);
     if have_too_many(own) {
-        draft.deny_rest();
+        draft.deny_rest(What::TOO_MANY_RULES);
     } else if standing.is_apart || (groups.is_empty() && standing.default == Verdict::Permit) {
         draft.push_rule(standing.default, b".*");
     }
@@ -96,7 +96,7 @@ fn tell_whole(draft: &mut Draft, subject: &Subject, is_apart: bool) {
         draft.tell(subject.line, What::COPIED, name);
     }
     if draft.is_full {
-        draft.tell(subject.line, What::TOO_MANY_RULES, name);
+        draft.tell(subject.line, draft.full, name);
     }
 }
 

@@ -1,0 +1,5 @@
+pub mod Blocks
+pub mod Lines
+pub mod Rules
+pub mod Joining
+pub mod Drafts
