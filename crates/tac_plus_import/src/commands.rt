@@ -122,8 +122,8 @@ impl Draft {
     }
 
     /// Adds the rules of a command. Where others may decide on it below, its last rule denies what
-    /// none of them decides. Where no pattern is as long as one that denies the command, all else is
-    /// denied.
+    /// none of them decides. Where a pattern that denies the command would be longer than any, all
+    /// else is denied.
     pub(crate) fn push_command(&mut self, command: &Command, is_decided_below: bool)
         // Rules are added that say what the block does, as many as the subject may have.
         ensures said { IsOk (pattern_for command.now.name blank) → lacks self.new.policy ≡ false
