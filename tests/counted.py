@@ -604,14 +604,17 @@ def edits_that_were_kept(program):
 
 
 def for_how_long_it_serves(program):
-    """In whole seconds."""
+    """In whole seconds. Each is asked by an operator who has just come: one who was silent for a day may
+    have been sent away."""
     clock = Clock()
-    with counting(program, judged=Judged(clock=clock)) as (server, operator, _):
+    with counting(program, judged=Judged(clock=clock)) as (server, _, _):
         for passed, wanted in ((0, 0), (0.999, 0), (0.001, 1), (58.999, 59), (0.001, 60), (90_000, 90_060)):
             clock.passes(passed)
-            came = operator.numbers()["tacd_uptime_seconds"]
+            with Operator(server) as operator:
+                came = operator.numbers()["tacd_uptime_seconds"]
             require(came == wanted, f"it tells {came} seconds, not {wanted}")
-        stops(server, operator)
+        with Operator(server) as operator:
+            stops(server, operator)
 
 
 # After how many seconds who calls, and what the log says of it.
