@@ -1,6 +1,6 @@
 -- Rules that are added to a block, one after another.
 use Rattle.std.proofs.Common.{◌≡◌, ◌+◌, ◌-◌, ◌<◌, inl, inr, ℕ, Bool, true, false, ◌&&◌, not, List, [], ◌∷◌, ◌++◌, length, drop, get_or, Option, Some, None, IfSome, refl, sym, ap, subst, ◌∙◌, append_assoc, append-nil, length-append, arith}
-use Rattle.std.proofs.lemmas.Bool.{ltb-true, ltb-false, lt-ltb, le-ltb}
+use Rattle.std.proofs.lemmas.Bool.{ltb-true, lt-ltb}
 use Rattle.std.proofs.lemmas.List.{drop_more, take-append-le}
 use Rattle.std.specs.Option.{IsSome}
 use Rattle.basics.specs.Memory.{Except}
@@ -23,7 +23,7 @@ use Rattle.tac_plus_import.specs.Rules.{decided, Says}
 use Rattle.tac_plus_import.specs.Joining.{DecideAlike, DecideAll, of_verdict, plain_rule, plain, listed, last_of, denial, is_over, IsAbout, AreSoFar, AreAdded}
 use Rattle.tac_plus_import.proofs.Deciding.{else_by, decided-append, alike_before, all_alike, holds_true}
 use Rattle.tac_plus_import.proofs.Answering.{plain_only, said_is, here_finds, blank_finds, says_open, says_closed, says_whole}
-use Rattle.tac_plus_import.proofs.Sureness.{sure_none, sure_more, sure_all}
+use Rattle.tac_plus_import.proofs.Sureness.{sure_more, sure_all}
 
 -- ---- lists of rules
 
@@ -63,9 +63,6 @@ pub record Taking (was now : Draft) (early late : Block) (rest whole : List Rule
   pub alike : DecideAlike (listed late ++ plain early.name early.any_line rest) (listed early ++ plain early.name early.any_line whole)
   pub sure : was.is_quiet ≡ false → lacks now.policy ≡ false → told now ≡ told was → IsSure early.name rest → IsSure early.name whole
 
-pub keeps_none : (draft : Draft) → Keeps draft draft
-keeps_none draft = record { policy = λ whole. (whole, refl); rules = refl; full = refl; quiet = refl; remarks = omega arith }
-
 pub keeps_more : (was mid now : Draft) → Keeps was mid → Keeps mid now → Keeps was now
 keeps_more was mid now one next = record {
   policy = λ whole. let late = next.policy whole in let early = one.policy late.0 in (early.0, late.1 ∙ early.1);
@@ -73,14 +70,6 @@ keeps_more was mid now one next = record {
   full = next.full ∙ one.full;
   quiet = next.quiet ∙ one.quiet;
   remarks = let a = one.remarks in let b = next.remarks in omega arith;
-}
-
-pub taking_none : (was : Draft) (early : Block) (whole : List Rule) → Taking was was early early whole whole
-taking_none was early whole = record {
-  about = (refl, refl);
-  keeps = keeps_none was;
-  alike = λ line texts. refl;
-  sure = λ q w t s. s;
 }
 
 about_more : (early mid late : Block) → IsAbout early mid → IsAbout mid late → IsAbout early late
@@ -149,9 +138,6 @@ taken_all was now early late rest whole so any all =
     alike_through (listed late) (listed late ++ plain early.name early.any_line rest) (listed early ++ plain early.name early.any_line whole)
     (all_alike early.name (listed late) (plain early.name early.any_line rest) (plain_only early.name early.any_line rest any) all) so.alike
 
-pub taken_none : (was now : Draft) (early late : Block) (whole : List Rule) → Taking was now early late [] whole → DecideAlike (listed late) (listed early ++ plain early.name early.any_line whole)
-taken_none was now early late whole so = alike_same (listed late) (listed late ++ []) (listed early ++ plain early.name early.any_line whole) (sym (append-nil (listed late))) so.alike
-
 -- ---- what was added, at each end of the loop
 
 part_of : (was now : Draft) (early late : Block) (rest whole : List Rule) → Taking was now early late rest whole
@@ -166,16 +152,6 @@ added_over was now early late rest whole so over = record {
   all = λ e. let e : false ≡ true = e in absurd cc;
   exact = λ e. let e : true ≡ false = sym over ∙ e in absurd cc;
   sure = λ e. let e : true ≡ false = sym over ∙ e in absurd cc;
-}
-
-pub added_end : (was now : Draft) (early late : Block) (whole : List Rule) → Taking was now early late [] whole → AreAdded was now early late whole false
-added_end was now early late whole so = record {
-  about = so.about;
-  keeps = so.keeps;
-  part = part_of was now early late [] whole so;
-  all = λ e. let e : false ≡ true = e in absurd cc;
-  exact = λ e. taken_none was now early late whole so;
-  sure = λ e quiet cut same. so.sure quiet cut same (sure_none early.name);
 }
 
 -- a rule that finds something everywhere was taken
@@ -301,15 +277,6 @@ said_added was now early late block is_closed all rules none any added same = by
           (subst (λ (r : List PolicyRule). AreSoFar was (late.rules.items ++ (last_of late.last ++ denial (is_closed && not all) early.any_line)) r) (sym wanted)
           (so_far was late.rules.items (last_of late.last ++ denial (is_closed && not all) early.any_line) ((last_of late.last ++ added.part.0) ++ denial is_closed early.any_line) over)),
     )
-
--- what fits at the end fitted before
-pub over_before : (was : Draft) (late : Block) (rules : List PolicyRule) (closes : Bool) (any_line : List ℕ) → rules ≡ listed late ++ denial closes any_line → is_over was rules ≡ false
-    → is_over was late.rules.items ≡ false
-over_before was late rules closes any_line same fits =
-    let le = ltb-false (255 - was.rules) (length rules) fits in
-    let size : length rules ≡ length (listed late) + length (denial closes any_line) = ap length same ∙ length-append (listed late) (denial closes any_line) in
-    let more : length (listed late) ≡ length late.rules.items + length (last_of late.last) = length-append late.rules.items (last_of late.last) in
-    le-ltb (255 - was.rules) (length late.rules.items) (omega arith)
 
 -- ---- one element of a list, and what a clause says of it
 

@@ -59,10 +59,6 @@ said_is name text found e =
     let parts = said_parts name (reading text) found e in
     pattern_is name found.0 found.1 (reading_spells text found.0 parts.0).0 parts.1
 
--- and the other way
-pub said_so : (name text : List ℕ) (expression : Expression) (pattern : List ℕ) → reading text ≡ Ok expression → pattern_for name expression ≡ Ok pattern → said name text ≡ Some (expression, pattern)
-said_so name text expression pattern read is = rw read (rw is refl)
-
 -- ---- lines and arguments
 
 -- a line has the arguments that it has

@@ -1,5 +1,5 @@
 -- What rules of a policy decide, one after another.
-use Rattle.std.proofs.Common.{◌≡◌, ◌↔◌, ◌⊎◌, inl, inr, ℕ, Bool, true, false, ◌||◌, IsTrue, List, [], ◌∷◌, ◌++◌, Option, Some, None, refl, sym, ap, ◌∙◌, if◌then◌else◌}
+use Rattle.std.proofs.Common.{◌≡◌, ◌↔◌, ◌⊎◌, inl, inr, ℕ, Bool, true, false, IsTrue, List, [], ◌∷◌, ◌++◌, Option, Some, None, refl, sym, ap, ◌∙◌, if◌then◌else◌}
 use Rattle.basics.specs.Symbol.{is_text}
 use Rattle.pol_names.specs.declared.decision.Verdict.{Verdict}
 use Rattle.pol_pattern.specs.Matching.{matches}
@@ -51,11 +51,6 @@ true_holds pattern line e = (match_law.same pattern line).0 e
 pub line_of : (name line : List ℕ) (expression : Expression) → FindsInLine name expression line → (arguments : List ℕ) × IsLine name arguments line
 line_of name line expression (inl alone) = ([], inl (alone.0, refl))
 line_of name line expression (inr more) = (more.0, inr more.1)
-
--- one rule decides what either of two does, if its pattern finds what either finds
-pub same_tests : (a b : Bool) (v : Verdict) (later : Option Verdict) → (if (a || b) then Some v else later) ≡ (if a then Some v else if b then Some v else later)
-same_tests true b v later = refl
-same_tests false b v later = refl
 
 pub either_line : (name line : List ℕ) (both first second : Expression)
     → ((arguments : List ℕ) → Finds both arguments ↔ (Finds first arguments ⊎ Finds second arguments))

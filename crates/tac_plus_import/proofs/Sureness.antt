@@ -1,13 +1,10 @@
 -- When what a block answers doesn't depend on what can't be said.
-use Rattle.std.proofs.Common.{◌≡◌, inl, inr, ℕ, List, [], ◌∷◌, Option, Some, sym, subst}
+use Rattle.std.proofs.Common.{◌≡◌, inl, inr, ℕ, List, ◌∷◌, Option, Some, sym, subst}
 use Rattle.pol_names.specs.declared.decision.Verdict.{Verdict}
 use Rattle.posix_expression.specs.Syntax.{Expression}
 use Rattle.posix_expression.specs.Finding.{Finds}
 use Rattle.tac_plus_file.specs.declared.configuration.Rule.{Rule}
 use Rattle.tac_plus_import.specs.Blocks.{said, Guess, FoundBy, Found, Answers, cautious, IsSure}
-
-pub sure_none : (name : List ℕ) → IsSure name []
-sure_none name guess arguments answer = ((λ h. h), (λ h. h))
 
 -- what a rule finds that is said doesn't depend on it
 same_found : (name : List ℕ) (guess other : Guess) (rule : Rule) (found : Expression × List ℕ) (arguments : List ℕ) → said name rule.expression ≡ Some found

@@ -2,7 +2,7 @@
 use Rattle.std.proofs.Common.{◌≡◌, ℕ, ◌+◌, ◌-◌, ◌<◌, ◌≤◌, Bool, true, false, ◌||◌, ◌&&◌, List, [], ◌∷◌, ◌++◌, length, take, refl, sym, ap, ◌∙◌, append-nil, append_assoc, arith, nat_lt}
 use Rattle.std.proofs.lemmas.List.{take-append-le, take_at, length_push}
 use Rattle.std.proofs.lemmas.Bool.{ltb-true, ltb-false, lt-ltb}
-use Rattle.posix_expression.specs.Gathered.{gathered, lacks}
+use Rattle.posix_expression.specs.Gathered.{gathered}
 use Rattle.tac_plus_import.specs.declared.block.PolicyRule.{PolicyRule}
 use Rattle.tac_plus_import.specs.declared.draft.Draft.{Draft}
 use Rattle.tac_plus_import.specs.Drafts.{rule_text, rules_text, deny_all, is_any, overflows, kept, Adds}
@@ -65,22 +65,6 @@ more false false true count room rules rule m n c =
           ∙ ap (λ (t : List PolicyRule). rules_text (t ++ deny_all ∷ [])) (sym (take_at rules (rule ∷ []) (255 - count) most));
       full = n ∙ ap (λ (k : ℕ). nat_lt 255 k) (omega arith) ∙ sym (overflows-more count rules rule);
     }
-
-or-false : (b : Bool) → b ≡ (b || false)
-or-false true = refl
-or-false false = refl
-
-kept-none : (full : Bool) (count : ℕ) → rules_text (kept full full count []) ≡ []
-kept-none true count = refl
-kept-none false count = refl
-
-pub adds_none : (draft : Draft) → lacks draft.policy ≡ false → Adds draft [] draft
-adds_none draft whole = record {
-  whole = whole;
-  written = sym (ap (λ (t : List ℕ). gathered draft.policy ++ t) (kept-none draft.is_full draft.rules) ∙ append-nil (gathered draft.policy));
-  full = or-false draft.is_full;
-  counted = λ e. omega arith;
-}
 
 pub adds_more : (before mid after : Draft) (rules : List PolicyRule) (rule : PolicyRule) → Adds before rules mid → Adds mid (rule ∷ []) after → Adds before (rules ++ rule ∷ []) after
 adds_more before mid after rules rule one next =
