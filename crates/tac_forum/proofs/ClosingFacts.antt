@@ -1,14 +1,16 @@
 -- Whether all seats are there, and what they have seen.
-use Rattle.std.proofs.Common.{◌≡◌, ◌≢◌, ⊎_elim, ℕ, zero, suc, ◌-◌, ◌<◌, List, Bool, true, false, ◌&&◌, arith, refl, sym, subst}
+use Rattle.std.proofs.Common.{◌≡◌, ◌≢◌, ⊎_elim, ℕ, zero, suc, ◌-◌, ◌<◌, List, Bool, true, false, ◌&&◌, arith, refl, sym, ap, ◌∙◌, subst}
 use Rattle.std.specs.Prelude.{All, ◌==◌}
 use Rattle.std.proofs.lemmas.List.Elements.{All-weaker}
 use Rattle.std.proofs.lemmas.Bool.Decides.{eqb_tells}
 use Rattle.tac_desk.specs.Meaning.{Meaning}
 use Rattle.tac_roll.specs.Roll.{AreGiven, Knows}
 use Rattle.tac_forum.specs.declared.event.Event.{Event}
-use Rattle.tac_forum.specs.History.{Opening, view_of, rotations_of, IsLawful}
+use Rattle.tac_forum.specs.declared.limits.Rotated.{Rotated}
+use Rattle.tac_forum.specs.History.{Place, place_of, view_of, rotations_of}
+use Rattle.tac_forum.specs.Room.{Opening, IsLawful}
 use Rattle.tac_forum.specs.Seat.{Seated}
-use Rattle.tac_forum.specs.Closing.{is_there, are_there, HasAll, IsSettled}
+use Rattle.tac_forum.specs.Closing.{is_there, are_there, HasAll, IsSettled, IsSettledAt}
 use Rattle.tac_forum.proofs.HistoryFacts.{view_known, rotations_known}
 
 -- the seats of all numbers below one, and of that one
@@ -36,10 +38,21 @@ pub settled : (opening : Opening) (history : List (ℕ × Event)) (last : Meanin
 settled opening history last numbers seats lawful there given know = record {
   history = history;
   legal = lawful.legal;
+  present = lawful.present;
+  segments = lawful.segments;
+  end = lawful.end;
   within = lawful.within;
   know = know;
   views = All-weaker (λ (seat : Seated). Knows history seat.number seat.seen) (λ (seat : Seated). view_of seat.number history ≡ view_of seat.number seat.seen) (λ seat k. view_known history seat.number seat.seen k) seats know;
   rotated = All-weaker (λ (seat : Seated). Knows history seat.number seat.seen) (λ (seat : Seated). rotations_of seat.number history ≡ rotations_of seat.number seat.seen) (λ seat k. rotations_known history seat.number seat.seen k) seats know;
   theirs = All-weaker (λ (event : ℕ × Event). event.0 < numbers) (λ (event : ℕ × Event). is_there event.0 seats ≡ true) (λ event below. there_below numbers seats event.0 there.1 below) history given;
   there = subst (λ (n : ℕ). are_there n seats ≡ true) (sym there.0) there.1;
+}
+
+pub settled_at : (opening : Opening) (history : List (ℕ × Event)) (last : Meaning) (numbers : ℕ) (seats : List Seated) (told : Rotated) → IsLawful opening history last → HasAll numbers seats → AreGiven numbers history
+    → All (λ (seat : Seated). Knows history seat.number seat.seen) seats → record { segment = told.number; entries = told.entries } ≡ place_of history → IsSettledAt opening told last seats
+unfolding settled
+settled_at opening history last numbers seats told lawful there given know at = record {
+  settled = settled opening history last numbers seats lawful there given know;
+  present = ap (λ (p : Place). record { number = p.segment; entries = p.entries }) (at ∙ lawful.segments.place);
 }

@@ -194,6 +194,10 @@ place_called history seat call answer = place_append beginning history ((seat, e
 pub place_rotated : (history : List (ℕ × Event)) (seat : ℕ) → place_of (history ++ (seat, events.Rotated) ∷ []) ≡ next_segment (place_of history)
 place_rotated history seat = place_append beginning history ((seat, events.Rotated) ∷ [])
 
+-- whichever way a segment ends
+pub place_ended : (history : List (ℕ × Event)) (event : ℕ × Event) → next_place (place_of history) event.1 ≡ next_segment (place_of history) → place_of (history ++ event ∷ []) ≡ next_segment (place_of history)
+place_ended history event is = place_append beginning history (event ∷ []) ∙ is
+
 -- ---- a seat that did nothing
 
 pub fresh : (number members : ℕ) (seen history : List (ℕ × Event)) → number ≡ members → seen ≡ history → AreGiven members history → AreOthers number seen

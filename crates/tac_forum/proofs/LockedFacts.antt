@@ -1,25 +1,39 @@
 -- What lies under the lock, after one thing more was done.
-use Rattle.std.proofs.Common.{◌≡◌, ℕ, suc, ◌+◌, ◌<◌, List, [], ◌∷◌, ◌++◌, Bool, false, arith, refl, sym, ap, ◌∙◌, subst}
+use Rattle.std.proofs.Common.{◌≡◌, ℕ, suc, ◌+◌, ◌<◌, length, List, [], ◌∷◌, ◌++◌, Bool, false, arith, refl, sym, ap, ◌∙◌, subst}
 use Rattle.tac_desk.specs.Meaning.{Meaning}
 use Rattle.tac_hall.specs.declared.call.Call.{Call}
 use Rattle.tac_hall.specs.declared.call.CallAnswer.{CallAnswer}
 use Rattle.tac_hall.specs.declared.entry.Entry.{Entry}
+use Rattle.tac_hall.specs.declared.entry.Made.{Made}
 use Rattle.tac_hall.specs.declared.entry.Receipt.{Receipt}
 use Rattle.tac_hall.specs.History.{Answers, IsOfKind, is_stop, is_closed, Legal, at_first, and_then}
 use Rattle.tac_hall.specs.Room.{last_segment}
+use Rattle.tac_hall.specs.Seat.{AreBelow}
+use Rattle.tac_hall.specs.Segment.{Stretch}
 use Rattle.tac_hall.proofs.HistoryFacts.{closed_after}
 use Rattle.tac_roll.specs.Roll.{Knows, Keeping, Membership}
 use Rattle.tac_forum.specs.declared.event.Event.{Event}
 use Rattle.tac_forum.specs.declared.event.Event.TheVariants as events
 use Rattle.tac_forum.specs.declared.limits.Rotated.{Rotated}
-use Rattle.tac_forum.specs.History.{Opening, Place, calls_in, place_of, view_of, rotations_of, next_segment, is_due, place_for, turned, IsLawful, IsCounted}
+use Rattle.tac_forum.specs.History.{Place, calls_in, place_of, view_of, rotations_of, next_segment, is_due, place_for, turned}
+use Rattle.tac_forum.specs.Room.{Opening, IsLawful, IsCounted}
 use Rattle.tac_forum.specs.Seat.{Seated, IsMade, IsRotated, CatchesUp}
+use Rattle.tac_forum.specs.Segments.{IsPresent}
+use Rattle.tac_forum.specs.Steps.{IsEnded}
+use Rattle.tac_forum.proofs.SegmentFacts.{begun, with_call, ready_for, ready_end, present_first, present_called, present_ready, present_rotated}
+use Rattle.tac_forum.proofs.ViewFacts.{views_law}
 use Rattle.tac_forum.proofs.HistoryFacts.{calls_ready, calls_called, calls_rotated, place_ready, place_called, place_rotated, room_ready, room_called, room_rotated}
 use Rattle.tac_forum.proofs.HistoryFacts.{view_same, view_ready, view_called, view_rotated, rotations_same, rotations_ready, rotations_called, rotations_rotated}
 
 pub counted_first : (opening : Opening) (meaning : Meaning) (history : List (ℕ × Event)) → history ≡ [] → meaning ≡ opening.meaning → IsCounted opening history meaning (record { segment = 0; entries = 0 }) false
 counted_first opening meaning history none same = rw (none, same) (record {
-  lawful = record { legal = at_first; within = (omega arith, tt) };
+  lawful = record {
+    legal = at_first;
+    within = (omega arith, tt);
+    present = begun 0 opening.meaning;
+    segments = present_first opening.meaning;
+    end = refl;
+  };
   stands = refl;
   stopped = refl;
 })
@@ -49,6 +63,16 @@ module _ {opening : Opening} {history : List (ℕ × Event)} {was now : Meaning}
   pub at_ready : place_of ready ≡ record { segment = segment; entries = entries }
   at_ready = place_ready opening.limits history due seat c.turns ∙ sym c.place
 
+  goes_on_ready : is_closed (calls_in ready) ≡ false
+  goes_on_ready = ap is_closed (calls_ready history due seat) ∙ c.goes_on
+
+  -- the segment in which it stands
+  abbrev stands_in : Stretch
+  stands_in = ready_for due c.lawful.present
+
+  answers_there : Answers stands_in.end call answer now
+  answers_there = subst (λ (m : Meaning). Answers m call answer now) (sym (ready_end due c.lawful.present ∙ c.lawful.end)) c.answers
+
   calls_later : calls_in later ≡ calls_in history ++ entry ∷ []
   calls_later = calls_called ready seat call answer ∙ ap (λ (l : List Entry). l ++ entry ∷ []) (calls_ready history due seat)
 
@@ -57,6 +81,9 @@ module _ {opening : Opening} {history : List (ℕ × Event)} {was now : Meaning}
     lawful = record {
       legal = subst (λ (l : List Entry). Legal opening.meaning l now) (sym calls_later) (and_then entry c.lawful.legal c.goes_on c.answers);
       within = room_called opening.limits.calls ready seat call answer (room_ready opening.limits.calls history due seat c.lawful.within) (let same : (place_of ready).entries ≡ entries = ap (λ (p : Place). p.entries) at_ready in let room : entries < opening.limits.calls = c.room in omega arith);
+      present = with_call stands_in entry now;
+      segments = present_called opening.meaning ready stands_in seat call answer now (present_ready opening.meaning history c.lawful.present due seat c.lawful.segments c.goes_on) goes_on_ready answers_there;
+      end = refl;
     };
     stands = place_called ready seat call answer ∙ (let more : suc entries ≡ entries + 1 = omega arith in ap (λ (p : Place). record { segment = p.segment; entries = suc p.entries }) at_ready ∙ ap (λ (n : ℕ). record { segment = segment; entries = n }) more);
     stopped = ap is_closed calls_later ∙ closed_after (calls_in history) entry c.goes_on ∙ sym is;
@@ -78,8 +105,11 @@ module _ {opening : Opening} {history : List (ℕ × Event)} {was now : Meaning}
         number = refl;
         seat = refl;
         place = at_ready;
+        room = c.room;
+        above = subst (λ (l : List Made). AreBelow segment entries l) (view_ready seat history due seat ∙ ap (view_of seat) all ∙ view_same seat seen others knows.2)
+            (subst (λ (p : Place). AreBelow p.segment p.entries (view_of seat ready)) at_ready (views_law ready seat).1);
         kind = kind;
-        goes_on = ap is_closed (calls_ready history due seat) ∙ c.goes_on;
+        goes_on = goes_on_ready;
         meaning = was;
         then = now;
         legal = subst (λ (l : List Entry). Legal opening.meaning l was) (sym (calls_ready history due seat)) c.lawful.legal;
@@ -95,20 +125,43 @@ module _ {opening : Opening} {history : List (ℕ × Event)} {was now : Meaning}
 
 -- ---- a rotation
 
-pub counted_rotated : (opening : Opening) (meaning : Meaning) (history : List (ℕ × Event)) (place : Place) (closed : Bool) (seat : ℕ) (next : ℕ) → IsCounted opening history meaning place closed → next ≡ suc place.segment
+pub counted_rotated : (opening : Opening) (meaning : Meaning) (history : List (ℕ × Event)) (place : Place) (closed : Bool) (seat : ℕ) (next : ℕ) → IsCounted opening history meaning place closed → closed ≡ false → next ≡ suc place.segment
     → IsCounted opening (history ++ (seat, events.Rotated) ∷ []) meaning (record { segment = next; entries = 0 }) closed
-counted_rotated opening meaning history place closed seat next h is = record {
+counted_rotated opening meaning history place closed seat next h still is = record {
   lawful = record {
     legal = subst (λ (l : List Entry). Legal opening.meaning l meaning) (sym (calls_rotated history seat)) h.lawful.legal;
     within = room_rotated opening.limits.calls history seat h.lawful.within;
+    present = begun (suc h.lawful.present.number) h.lawful.present.end;
+    segments = present_rotated opening.meaning history h.lawful.present seat h.lawful.segments (h.stopped ∙ still);
+    end = h.lawful.end;
   };
   stands = place_rotated history seat ∙ ap next_segment h.stands ∙ ap (λ (n : ℕ). record { segment = n; entries = 0 }) (sym is);
   stopped = ap is_closed (calls_rotated history seat) ∙ h.stopped;
 }
 
-pub made_rotated : (history : List (ℕ × Event)) (place : Place) (seat : ℕ) (seen : List (ℕ × Event)) (rotated : Rotated) → place_of history ≡ place → is_closed (calls_in history) ≡ false → place.segment < last_segment → Knows history seat seen → rotated ≡ record { number = place.segment; entries = place.entries }
-    → IsRotated (record { number = seat; seen = seen }) rotated (record { number = seat; seen = history ++ (seat, events.Rotated) ∷ [] })
-made_rotated history place seat seen rotated at goes_on numbered knows is =
+-- what is told of the segment that ends: where the next call would have stood
+told_of_place : (opening : Opening) (history : List (ℕ × Event)) (meaning : Meaning) (place : Place) (rotated : Rotated) (lawful : IsLawful opening history meaning) → place_of history ≡ place → rotated ≡ record { number = place.segment; entries = place.entries }
+    → rotated ≡ record { number = lawful.present.number; entries = length lawful.present.log }
+told_of_place opening history meaning place rotated lawful at is = is ∙ ap (λ (p : Place). record { number = p.segment; entries = p.entries }) (sym at ∙ lawful.segments.place)
+
+-- what the step did
+pub step_rotated : (opening : Opening) (meaning : Meaning) (history : List (ℕ × Event)) (place : Place) (seat seats : ℕ) (rotated : Rotated) (lawful : IsLawful opening history meaning) → place_of history ≡ place → is_closed (calls_in history) ≡ false → place.segment < last_segment → rotated ≡ record { number = place.segment; entries = place.entries }
+    → IsEnded opening (record { history = history; seats = seats; meaning = meaning }) seat rotated (record { history = history ++ (seat, events.Rotated) ∷ []; seats = seats; meaning = meaning })
+step_rotated opening meaning history place seat seats rotated lawful at goes_on numbered is = record {
+  goes_on = goes_on;
+  segment = lawful.present;
+  present = lawful.segments;
+  end = lawful.end;
+  told = told_of_place opening history meaning place rotated lawful at is;
+  numbered = subst (λ (r : Rotated). r.number < last_segment) (sym is) numbered;
+  left = refl;
+  next = subst (λ (m : Meaning). IsPresent opening.meaning (history ++ (seat, events.Rotated) ∷ []) (record { number = suc lawful.present.number; base = m; log = []; end = m })) lawful.end
+      (present_rotated opening.meaning history lawful.present seat lawful.segments goes_on);
+}
+
+pub made_rotated : (opening : Opening) (meaning : Meaning) (history : List (ℕ × Event)) (place : Place) (seat : ℕ) (seen : List (ℕ × Event)) (rotated : Rotated) (lawful : IsLawful opening history meaning) → place_of history ≡ place → is_closed (calls_in history) ≡ false → place.segment < last_segment → Knows history seat seen → rotated ≡ record { number = place.segment; entries = place.entries }
+    → IsRotated opening (record { number = seat; seen = seen }) rotated (record { number = seat; seen = history ++ (seat, events.Rotated) ∷ [] })
+made_rotated opening meaning history place seat seen rotated lawful at goes_on numbered knows is =
     let others = knows.0 in
     let all : history ≡ seen ++ others = knows.1 in
     let told : record { number = (place_of history).segment; entries = (place_of history).entries } ≡ rotated = (λ i. record { number = (at i).segment; entries = (at i).entries }) ∙ sym is in
@@ -118,6 +171,9 @@ made_rotated history place seat seen rotated at goes_on numbered knows is =
       seen = ap (λ (h : List (ℕ × Event)). h ++ (seat, events.Rotated) ∷ []) all;
       number = refl;
       goes_on = ap (λ (h : List (ℕ × Event)). is_closed (calls_in h)) (sym all) ∙ goes_on;
+      segment = lawful.present;
+      present = subst (λ (h : List (ℕ × Event)). IsPresent opening.meaning h lawful.present) all lawful.segments;
+      told = told_of_place opening history meaning place rotated lawful at is;
       numbered = subst (λ (r : Rotated). r.number < last_segment) (sym is) numbered;
       place = ap place_of (sym all) ∙ at ∙ (λ i. record { segment = (sym is i).number; entries = (sym is i).entries });
       view = view_rotated seat history ∙ ap (view_of seat) all ∙ view_same seat seen others knows.2;

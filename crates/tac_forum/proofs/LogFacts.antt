@@ -8,6 +8,7 @@ use Rattle.tac_hall.specs.Shedding.{view_of as view_in}
 use Rattle.tac_forum.specs.declared.event.Event.{Event}
 use Rattle.tac_forum.specs.declared.event.Event.TheVariants as events
 use Rattle.tac_forum.specs.History.{calls_in, logs_from, joined, view_from, LogsLaw}
+use Rattle.tac_forum.proofs.SegmentFacts.{logs_split}
 
 joined_from : (log : List Entry) (history : List (ℕ × Event)) → joined (logs_from log history) ≡ log ++ calls_in history
 joined_from log [] = refl
@@ -41,4 +42,4 @@ views_from number log segment entries ((seat, events.Rotated) ∷ history) same 
 views_from number log segment entries ((seat, events.RotatedByItself) ∷ history) same = ap (λ (l : List Made). view_in segment number 0 log ++ l) (views_from number [] (suc segment) 0 history refl)
 
 pub logs_law : LogsLaw
-logs_law history = (joined_from [] history, λ number. views_from number [] 0 0 history refl)
+logs_law history = (joined_from [] history, (λ number. views_from number [] 0 0 history refl), logs_split [] history)

@@ -1,22 +1,16 @@
 -- The history of a desk that many seats call: what each of them did, one thing after another.
-use Rattle.std.specs.Prelude.{◌≡◌, ◌≤◌, ◌<◌, ◌-◌, ℕ, suc, ◌==◌, List, [], ◌∷◌, ◌++◌, length}
+use Rattle.std.specs.Prelude.{◌≡◌, ◌≤◌, ◌-◌, ℕ, suc, ◌==◌, List, [], ◌∷◌, ◌++◌, length}
 use Rattle.std.specs.Prelude.{Bool, true, false, ◌&&◌, nat_le, nat_lt, if◌then◌else◌}
-use Rattle.std.specs.Prelude.{Result, Ok, Err}
 use Rattle.std.specs.List.{flat_map}
-use Rattle.tac_desk.specs.Meaning.{Meaning, opening}
-use Rattle.tac_hall.specs.declared.call.Call.{Call}
 use Rattle.tac_hall.specs.declared.entry.Entry.{Entry}
 use Rattle.tac_hall.specs.declared.entry.Made.{Made}
-use Rattle.tac_hall.specs.declared.fault.HallFault.{HallFault}
-use Rattle.tac_hall.specs.declared.fault.HallFault.TheVariants.{LogFull, Memory, Closed, NoSeat}
-use Rattle.tac_hall.specs.History.{is_ask, is_closed, Legal}
 use Rattle.tac_hall.specs.Room.{last_segment}
+use Rattle.tac_hall.specs.Seat.{AreBelow, Rises}
 use Rattle.tac_hall.specs.Shedding.{view_along}
 use Rattle.tac_forum.specs.declared.event.Event.{Event}
 use Rattle.tac_forum.specs.declared.event.Event.TheVariants as events
 use Rattle.tac_forum.specs.declared.limits.Limits.{Limits}
 use Rattle.tac_forum.specs.declared.limits.Rotated.{Rotated}
-use Rattle.tac_forum.specs.declared.locked.NextCall.{NextCall}
 
 -- ---- its calls
 
@@ -74,6 +68,35 @@ logs_from log (event ∷ history) =
 abbrev pub logs_of : List (ℕ × Event) → List (List Entry)
 logs_of history = logs_from [] history
 
+-- the log of the present segment after one thing more, and the log that ended by it, if one did
+abbrev pub log_with : List Entry → ℕ → Event → List Entry
+log_with log seat (events.Called call answer) =
+    log ++ record { seat = seat; call = call; answer = answer } ∷ []
+log_with log seat events.Rotated = []
+log_with log seat events.RotatedByItself = []
+
+abbrev pub ended_by : List Entry → Event → List (List Entry)
+ended_by log (events.Called call answer) = []
+ended_by log events.Rotated = log ∷ []
+ended_by log events.RotatedByItself = log ∷ []
+
+-- the log of the present segment, where it began so
+abbrev pub log_from : List Entry → List (ℕ × Event) → List Entry
+log_from log [] = log
+log_from log (event ∷ history) = log_from (log_with log event.0 event.1) history
+
+abbrev pub log_of : List (ℕ × Event) → List Entry
+log_of history = log_from [] history
+
+-- the logs of the segments that have ended
+abbrev pub ended_from : List Entry → List (ℕ × Event) → List (List Entry)
+ended_from log [] = []
+ended_from log (event ∷ history) =
+    ended_by log event.1 ++ ended_from (log_with log event.0 event.1) history
+
+abbrev pub ended_of : List (ℕ × Event) → List (List Entry)
+ended_of history = ended_from [] history
+
 -- no log has more calls than this
 abbrev pub AreWithin : ℕ → List (List Entry) → Type 0
 AreWithin limit [] = Unit {0}
@@ -127,12 +150,21 @@ rotations_from number place (event ∷ history) =
 abbrev pub rotations_of : ℕ → List (ℕ × Event) → List Rotated
 rotations_of number history = rotations_from number beginning history
 
--- the logs have all calls, and of each seat exactly its calls, each at its place
+-- the logs have all calls, and of each seat exactly its calls, each at its place; they are those
+-- that have ended, and then the present one
 abbrev pub LogsLaw : Type 0
 LogsLaw =
     (history : List (ℕ × Event))
     → (joined (logs_of history) ≡ calls_in history)
     × ((number : ℕ) → view_along 0 number (logs_of history) ≡ view_of number history)
+    × (logs_of history ≡ ended_of history ++ log_of history ∷ [])
+
+-- a seat's calls stand in the order in which it made them, and all before the next place
+abbrev pub ViewsLaw : Type 0
+ViewsLaw =
+    (history : List (ℕ × Event)) (number : ℕ)
+    → Rises (view_of number history)
+    × AreBelow (place_of history).segment (place_of history).entries (view_of number history)
 
 -- ---- where the next segment begins by itself
 
@@ -153,70 +185,3 @@ turned false seat = []
 abbrev pub before_call : Limits → ℕ → List (ℕ × Event) → List (ℕ × Event)
 before_call limits seat history =
     history ++ turned (is_due limits (place_of history)) seat
-
--- ---- what may be done
-
--- what has happened, how many seats were made, and what the desk represents
-pub record Standing : Type 0 where
-  pub history : List (ℕ × Event)
-  pub seats : ℕ
-  pub meaning : Meaning
-
--- what a desk represented when its history began, and how long the parts of that may be
-pub record Opening : Type 0 where
-  pub meaning : Meaning
-  pub limits : Limits
-
--- the calls are a legal history from what the desk represented at first to what it represents now,
--- and no log is longer than it may be
-pub record IsLawful (opening : Opening) (history : List (ℕ × Event)) (meaning : Meaning) : Type 0
-  where
-    pub legal : Legal opening.meaning (calls_in history) meaning
-    pub within : AreWithin opening.limits.calls (logs_of history)
-
--- the same, where the next call stands, and whether there was a Stop
-pub record IsCounted (opening : Opening) (history : List (ℕ × Event)) (meaning : Meaning)
-    (place : Place) (closed : Bool) : Type 0 where
-  pub lawful : IsLawful opening history meaning
-  pub stands : place_of history ≡ place
-  pub stopped : is_closed (calls_in history) ≡ closed
-
--- a call is refused after a Stop, else where the log is full in which it would stand, else perhaps
--- because memory ran out for the answer to an ask
-abbrev pub RefusesCall : Limits → List (ℕ × Event) → Call → HallFault → Type 0
-RefusesCall limits history call Closed = is_closed (calls_in history) ≡ true
-RefusesCall limits history call LogFull =
-    (is_closed (calls_in history) ≡ false)
-    × (limits.calls ≤ (place_for limits (place_of history)).entries)
-RefusesCall limits history call Memory =
-    (is_closed (calls_in history) ≡ false)
-    × ((place_for limits (place_of history)).entries < limits.calls)
-    × (is_ask call ≡ true)
-RefusesCall limits history call NoSeat = ⊥
-
--- whether a call may be made, and where it stands then
-abbrev pub Judges : Limits → List (ℕ × Event) → Result NextCall HallFault → Type 0
-Judges limits history (Ok next) =
-    (is_closed (calls_in history) ≡ false)
-    × (next.is_due ≡ is_due limits (place_of history))
-    × (record { segment = next.segment; entries = next.entries }
-    ≡ place_for limits (place_of history))
-    × (next.entries < limits.calls)
-Judges limits history (Err Closed) = is_closed (calls_in history) ≡ true
-Judges limits history (Err LogFull) =
-    (is_closed (calls_in history) ≡ false)
-    × (limits.calls ≤ (place_for limits (place_of history)).entries)
-Judges limits history (Err fault) = ⊥
-
--- a rotation is refused after a Stop, else where no number is left
-abbrev pub RefusesRotation : List (ℕ × Event) → HallFault → Type 0
-RefusesRotation history Closed = is_closed (calls_in history) ≡ true
-RefusesRotation history LogFull =
-    (is_closed (calls_in history) ≡ false) × ((place_of history).segment ≡ last_segment)
-RefusesRotation history Memory = ⊥
-RefusesRotation history NoSeat = ⊥
-
--- ---- where no run is picked yet
-
-abbrev pub no_opening : Opening
-no_opening = record { meaning = opening [] 0; limits = record { calls = 0; rotate_at = 0 } }

@@ -1,18 +1,21 @@
 -- A seat at a desk that many call, and what a call adds to the history that it has seen.
-use Rattle.std.specs.Prelude.{◌≡◌, ◌<◌, ℕ, List, [], ◌∷◌, ◌++◌, false, Option, Some, None}
+use Rattle.std.specs.Prelude.{◌≡◌, ◌<◌, ℕ, List, [], ◌∷◌, ◌++◌, length, false}
+use Rattle.std.specs.Prelude.{Option, Some, None}
 use Rattle.tac_desk.specs.Meaning.{Meaning}
 use Rattle.tac_hall.specs.declared.call.Call.{Call}
 use Rattle.tac_hall.specs.declared.entry.Receipt.{Receipt}
 use Rattle.tac_hall.specs.declared.fault.HallFault.{HallFault}
 use Rattle.tac_hall.specs.History.{Answers, IsOfKind, is_closed, Legal}
 use Rattle.tac_hall.specs.Room.{last_segment}
-use Rattle.tac_hall.specs.Seat.{made_of}
+use Rattle.tac_hall.specs.Seat.{made_of, AreBelow}
+use Rattle.tac_hall.specs.Segment.{Stretch}
 use Rattle.tac_roll.specs.Roll.{RollId, Membership, AreOthers}
 use Rattle.tac_forum.specs.declared.event.Event.{Event}
 use Rattle.tac_forum.specs.declared.event.Event.TheVariants as events
 use Rattle.tac_forum.specs.declared.limits.Rotated.{Rotated}
-use Rattle.tac_forum.specs.History.{Opening, IsLawful, RefusesCall, RefusesRotation}
 use Rattle.tac_forum.specs.History.{calls_in, place_of, before_call, view_of, rotations_of}
+use Rattle.tac_forum.specs.Room.{Opening, IsLawful, RefusesCall, RefusesRotation}
+use Rattle.tac_forum.specs.Segments.{IsPresent}
 
 -- its number, and the history up to the last thing that it did
 pub record Seated : Type 0 where
@@ -36,7 +39,8 @@ IsSeatOf roll number None = ⊥
 -- ---- a call
 
 -- others did these things, and then this seat made this call, and nothing else: before it the next
--- segment began by itself where that was due. The answer is right after all calls before it
+-- segment began by itself where that was due. The answer is right after all calls before it, and
+-- the call stands after all that the seat made before
 pub record IsMade (opening : Opening) (was : Seated) (call : Call)
     (receipt : Receipt) (now : Seated) : Type 0 where
   pub others : List (ℕ × Event)
@@ -47,6 +51,8 @@ pub record IsMade (opening : Opening) (was : Seated) (call : Call)
   pub number : now.number ≡ was.number
   pub seat : receipt.seat ≡ was.number
   pub place : place_of before ≡ record { segment = receipt.segment; entries = receipt.place }
+  pub room : receipt.place < opening.limits.calls
+  pub above : AreBelow receipt.segment receipt.place (view_of was.number was.seen)
   pub kind : IsOfKind call receipt.answer
   pub goes_on : is_closed (calls_in before) ≡ false
   pub meaning : Meaning
@@ -75,19 +81,24 @@ pub record IsRefused (opening : Opening) (seat : Seated) (call : Call) (fault : 
 
 -- ---- a rotation
 
--- others did these things, and then this seat ended the segment that is told, and nothing else
-pub record IsRotated (was : Seated) (rotated : Rotated) (now : Seated) : Type 0 where
-  pub others : List (ℕ × Event)
-  pub apart : AreOthers was.number others
-  pub seen : now.seen ≡ (was.seen ++ others) ++ (was.number, events.Rotated) ∷ []
-  pub number : now.number ≡ was.number
-  pub goes_on : is_closed (calls_in (was.seen ++ others)) ≡ false
-  pub place : place_of (was.seen ++ others)
-      ≡ record { segment = rotated.number; entries = rotated.entries }
-  pub numbered : rotated.number < last_segment
-  pub view : view_of was.number now.seen ≡ view_of was.number was.seen
-  pub rotations : rotations_of was.number now.seen
-      ≡ rotations_of was.number was.seen ++ rotated ∷ []
+-- others did these things, and then this seat ended the segment that is told, and nothing else: it
+-- is the present one of all that happened before, with its number, its base, its calls and its end
+pub record IsRotated (opening : Opening) (was : Seated) (rotated : Rotated) (now : Seated) : Type 0
+  where
+    pub others : List (ℕ × Event)
+    pub apart : AreOthers was.number others
+    pub seen : now.seen ≡ (was.seen ++ others) ++ (was.number, events.Rotated) ∷ []
+    pub number : now.number ≡ was.number
+    pub goes_on : is_closed (calls_in (was.seen ++ others)) ≡ false
+    pub place : place_of (was.seen ++ others)
+        ≡ record { segment = rotated.number; entries = rotated.entries }
+    pub segment : Stretch
+    pub present : IsPresent opening.meaning (was.seen ++ others) segment
+    pub told : rotated ≡ record { number = segment.number; entries = length segment.log }
+    pub numbered : rotated.number < last_segment
+    pub view : view_of was.number now.seen ≡ view_of was.number was.seen
+    pub rotations : rotations_of was.number now.seen
+        ≡ rotations_of was.number was.seen ++ rotated ∷ []
 
 -- after what the seat has seen, which is a lawful history, a rotation is refused so
 pub record IsUnrotated (opening : Opening) (seat : Seated) (fault : HallFault) : Type 0 where

@@ -3,8 +3,23 @@
 ghost use Rattle.std.specs.Prelude.{◌≡◌};
 ghost use Rattle.tac_forum.specs.Closing as closing;
 
+use crate::limits::Rotated;
 use crate::run::Run;
 use crate::seat::Seat;
+
+/// A desk that many called, once it is closed: the number of its last segment with the count of its
+/// calls, and the desk.
+pub struct Settled<D> {
+    pub last: Rotated,
+    pub desk: D,
+}
+
+// By hand, so that a proof of an owner has one call at each exit, not a drop of each field.
+impl<D: Drop> Drop for Settled<D> {
+    fn drop(self) {
+        let Settled { last: _, desk: _ } = self;
+    }
+}
 
 fn is_there<J: Run>(number: u32, seats: &[Seat<J>]) -> bool
     ensures { result ≡ closing.is_there number seats.now }

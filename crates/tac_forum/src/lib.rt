@@ -11,6 +11,7 @@ mod run;
 mod seat;
 mod shared_desk;
 
+pub use closing::Settled;
 pub use event::{EmptyHistory, Event};
 pub use laws::logs_laws;
 pub use limits::{Limits, Rotated};

@@ -5,12 +5,14 @@ ghost use Rattle.std.specs.Prelude.{IsTrue, IfOk, IfErr, OnErr};
 ghost use Rattle.tac_desk.specs.Asking.{hash_for};
 ghost use Rattle.tac_forum.specs.Closing.{HasAll};
 ghost use Rattle.tac_forum.specs.History as history;
+ghost use Rattle.tac_forum.specs.Room as rooms;
 ghost use Rattle.tac_forum.specs.Seat as seats;
+ghost use Rattle.tac_forum.specs.Steps as steps;
 ghost use Rattle.tac_hall.specs.declared.fault.HallFault.TheVariants.{NoSeat};
 ghost use Rattle.tac_roll.specs.Roll.{Knows, AreGiven};
 
 use crate::answering::answer;
-use crate::closing::are_there;
+use crate::closing::{Settled, are_there};
 use crate::event::{Event, Told};
 use crate::limits::{Limits, Rotated};
 use crate::run::Run;
@@ -56,8 +58,9 @@ impl<J: Run, D: Desk> Drop for Locked<J, D> {
 }
 
 impl<J: Run, D: Desk> Model for Locked<J, D> {
-    ghost use Rattle.std.specs.Prelude.{◌≡◌};
-    ghost use Rattle.tac_forum.specs.History.{Standing, IsCounted};
+    ghost use Rattle.std.specs.Prelude.{◌≡◌, ◌≤◌};
+    ghost use Rattle.tac_forum.specs.Room.{Standing, IsCounted};
+    ghost use Rattle.tac_hall.specs.Room.{most_seats};
 
     ghost Value = { Standing };
 
@@ -70,7 +73,8 @@ impl<J: Run, D: Desk> Model for Locked<J, D> {
     ghost invariant = { λ locked. (locked.keeper.roll ≡ J.roll) × (locked.limits ≡ J.opening.limits)
         × (locked.keeper.members ≡ locked.seats)
         × IsCounted J.opening locked.keeper.all (D.meaning locked.desk)
-        (record { segment = locked.segment; entries = locked.entries }) locked.closed };
+        (record { segment = locked.segment; entries = locked.entries }) locked.closed
+        × (locked.seats ≤ most_seats) };
 }
 
 /// Where a call would stand, and whether that is in a segment which has to begin first.
@@ -121,9 +125,10 @@ impl<J: Run, D: Desk> Locked<J, D> {
     /// A seat that did nothing, under the next number.
     pub(crate) fn seat(&mut self, roll: &Roll<Event>) -> Result<Seat<J>, HallFault>
         requires { roll.now ≡ J.roll }
+        ensures sits { steps.Sits self.old result self.new }
         ensures fresh { IfOk result seats.IsFresh }
-        ensures fault { IfErr result (λ fault. (fault ≡ NoSeat) × (64 ≤ self.old.seats)) }
-        ensures still { OnErr result (self.new ≡ self.old) }
+        ensures fault { IfErr result (λ fault. fault ≡ NoSeat) }
+        ensures lawful { rooms.IsLawful J.opening self.new.history self.new.meaning }
     {
         if self.seats >= MAX_SEATS {
             return Err(HallFault::NoSeat);
@@ -171,7 +176,7 @@ impl<J: Run, D: Desk> Locked<J, D> {
 
     // Where the next call stands, if one may be made.
     fn judge(&self) -> Result<NextCall, HallFault>
-        ensures { history.Judges J.opening.limits self.now.history result }
+        ensures { rooms.Judges J.opening.limits self.now.history result }
     {
         if self.closed {
             return Err(HallFault::Closed);
@@ -194,6 +199,9 @@ impl<J: Run, D: Desk> Locked<J, D> {
         requires roll { roll.now ≡ J.roll }
         requires member { seats.IsSeatOf J.roll number (Some member) }
         ensures member { seats.IsSeatOf J.roll number (Some result.0) }
+        ensures calls { steps.Calls J.opening self.old number call.now result.1 self.new }
+        ensures seen { result.0 ≡ record member { seen = self.new.history } }
+        ensures lawful { rooms.IsLawful J.opening self.new.history self.new.meaning }
         ensures made { IfOk result.1 (λ receipt. seats.IsMade J.opening
             (seats.seated_as (Some member)) call.now receipt
             (seats.seated_as (Some result.0))) }
@@ -201,7 +209,6 @@ impl<J: Run, D: Desk> Locked<J, D> {
             (seats.seated_as (Some member)) (seats.seated_as (Some result.0))) }
         ensures refused { IfErr result.1 (seats.IsRefused J.opening
             (seats.seated_as (Some result.0)) call.now) }
-        ensures still { OnErr result.1 (self.new ≡ self.old) }
     {
         let member = roll.compare(&mut self.keeper, member);
         let NextCall {
@@ -242,11 +249,13 @@ impl<J: Run, D: Desk> Locked<J, D> {
         call: &Call,
     ) -> Result<Receipt, HallFault>
         requires { roll.now ≡ J.roll }
+        ensures calls { steps.Calls J.opening self.old seat.old.number call.now result self.new }
+        ensures seen { seat.new ≡ record seat.old { seen = self.new.history } }
+        ensures lawful { rooms.IsLawful J.opening self.new.history self.new.meaning }
         ensures made { IfOk result (λ receipt.
             seats.IsMade J.opening seat.old call.now receipt seat.new) }
         ensures err { OnErr result (seats.CatchesUp seat.old seat.new) }
         ensures refused { IfErr result (seats.IsRefused J.opening seat.new call.now) }
-        ensures still { OnErr result (self.new ≡ self.old) }
     {
         let Some(member) = seat.member.take() else {
             unreachable!()
@@ -266,13 +275,15 @@ impl<J: Run, D: Desk> Locked<J, D> {
         requires roll { roll.now ≡ J.roll }
         requires member { seats.IsSeatOf J.roll number (Some member) }
         ensures member { seats.IsSeatOf J.roll number (Some result.0) }
-        ensures rotated { IfOk result.1 (λ rotated. seats.IsRotated
+        ensures rotates { steps.Rotates J.opening self.old number result.1 self.new }
+        ensures seen { result.0 ≡ record member { seen = self.new.history } }
+        ensures lawful { rooms.IsLawful J.opening self.new.history self.new.meaning }
+        ensures rotated { IfOk result.1 (λ rotated. seats.IsRotated J.opening
             (seats.seated_as (Some member)) rotated (seats.seated_as (Some result.0))) }
         ensures err { OnErr result.1 (seats.CatchesUp
             (seats.seated_as (Some member)) (seats.seated_as (Some result.0))) }
         ensures refused { IfErr result.1 (seats.IsUnrotated J.opening
             (seats.seated_as (Some result.0))) }
-        ensures still { OnErr result.1 (self.new ≡ self.old) }
     {
         let member = roll.compare(&mut self.keeper, member);
         if self.closed {
@@ -302,10 +313,13 @@ impl<J: Run, D: Desk> Locked<J, D> {
         seat: &mut Seat<J>,
     ) -> Result<Rotated, HallFault>
         requires { roll.now ≡ J.roll }
-        ensures rotated { IfOk result (λ rotated. seats.IsRotated seat.old rotated seat.new) }
+        ensures rotates { steps.Rotates J.opening self.old seat.old.number result self.new }
+        ensures seen { seat.new ≡ record seat.old { seen = self.new.history } }
+        ensures lawful { rooms.IsLawful J.opening self.new.history self.new.meaning }
+        ensures rotated { IfOk result (λ rotated.
+            seats.IsRotated J.opening seat.old rotated seat.new) }
         ensures err { OnErr result (seats.CatchesUp seat.old seat.new) }
         ensures refused { IfErr result (seats.IsUnrotated J.opening seat.new) }
-        ensures still { OnErr result (self.new ≡ self.old) }
     {
         let Some(member) = seat.member.take() else {
             unreachable!()
@@ -346,21 +360,29 @@ impl<J: Run, D: Desk> Locked<J, D> {
         let _ = roll.compare(&mut self.keeper, member);
     }
 
-    /// The desk, after a lawful history.
-    pub(crate) fn into_desk(self) -> D
-        ensures meaning { D.meaning result ≡ self.meaning }
-        ensures lawful { history.IsLawful J.opening self.history (D.meaning result) }
+    /// The desk, after a lawful history, and which segment is the last, with the count of its calls.
+    pub(crate) fn settled(self) -> Settled<D>
+        ensures meaning { D.meaning result.desk ≡ self.meaning }
+        ensures lawful { rooms.IsLawful J.opening self.history (D.meaning result.desk) }
+        ensures last { record { segment = result.last.number; entries = result.last.entries }
+            ≡ history.place_of self.history }
     {
         let Locked {
             desk,
             keeper: _,
             limits: _,
-            segment: _,
-            entries: _,
+            segment,
+            entries,
             seats: _,
             closed: _,
             of: _,
         } = self;
-        desk
+        Settled {
+            last: Rotated {
+                number: segment,
+                entries,
+            },
+            desk,
+        }
     }
 }

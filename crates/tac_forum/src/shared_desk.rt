@@ -1,11 +1,12 @@
 //! A desk that many threads call.
 
 ghost use Rattle.std.specs.Prelude.{◌≡◌, All, IfOk, IfErr, OnErr};
-ghost use Rattle.tac_forum.specs.Closing.{HasAll, IsSettled};
+ghost use Rattle.tac_forum.specs.Closing.{HasAll, IsSettledAt};
 ghost use Rattle.tac_forum.specs.Seat as seats;
 ghost use Rattle.tac_hall.specs.declared.fault.HallFault.TheVariants.{NoSeat};
 ghost use Rattle.tac_roll.specs.Roll.{Knows};
 
+use crate::closing::Settled;
 use crate::event::{EmptyHistory, Event};
 use crate::limits::{Limits, Rotated};
 use crate::locked::Locked;
@@ -101,7 +102,8 @@ impl<J: Run, D: Desk> SharedDesk<J, D> {
     /// Refused as Closed after a Stop, then as LogFull where the present segment has the greatest
     /// number. Then nothing was done; the seat has seen what others did until then.
     pub fn rotate<R: Wait>(&self, rt: &R, seat: &mut Seat<J>) -> Result<Rotated, HallFault>
-        ensures rotated { IfOk result (λ rotated. seats.IsRotated seat.old rotated seat.new) }
+        ensures rotated { IfOk result (λ rotated.
+            seats.IsRotated J.opening seat.old rotated seat.new) }
         ensures err { OnErr result (seats.CatchesUp seat.old seat.new) }
         ensures refused { IfErr result (seats.IsUnrotated J.opening seat.new) }
     {
@@ -110,12 +112,13 @@ impl<J: Run, D: Desk> SharedDesk<J, D> {
 
     /// Ends it, with all its seats. What they did is one legal history, from what the desk
     /// represented at first to what the desk that comes back represents: of each seat exactly what
-    /// it did, each call at its place, and nothing else.
+    /// it did, each call at its place, and nothing else. Its last segment is told, with the count
+    /// of its calls.
     ///
     /// Refused where one of the seats is missing; then all comes back. Quadratic in the seats.
-    pub fn close(self, seats: Vec<Seat<J>>) -> Result<D, (SharedDesk<J, D>, Vec<Seat<J>>)>
-        ensures settled { IfOk result (λ desk.
-            IsSettled J.opening (D.meaning desk) seats.items) }
+    pub fn close(self, seats: Vec<Seat<J>>) -> Result<Settled<D>, (SharedDesk<J, D>, Vec<Seat<J>>)>
+        ensures settled { IfOk result (λ settled.
+            IsSettledAt J.opening settled.last (D.meaning settled.desk) seats.items) }
         ensures back { IfErr result (λ back. back.1 ≡ seats) }
     {
         let SharedDesk { roll, locked } = self;
@@ -131,15 +134,19 @@ impl<J: Run, D: Desk> SharedDesk<J, D> {
     }
 }
 
-// The desk, once each seat was compared with the history. All seats are there.
-fn settle<J: Run, D: Desk>(roll: &Roll<Event>, mut locked: Locked<J, D>, seats: Vec<Seat<J>>) -> D
+// What comes back, once each seat was compared with the history. All seats are there.
+fn settle<J: Run, D: Desk>(
+    roll: &Roll<Event>,
+    mut locked: Locked<J, D>,
+    seats: Vec<Seat<J>>,
+) -> Settled<D>
     requires roll { roll.now ≡ J.roll }
     requires there { HasAll locked.seats seats.items }
-    ensures { IsSettled J.opening (D.meaning result) seats.items }
+    ensures { IsSettledAt J.opening result.last (D.meaning result.desk) seats.items }
 {
     locked.look(roll);
     compare_all(roll, &mut locked, seats);
-    locked.into_desk()
+    locked.settled()
 }
 
 // Each seat has seen a beginning of the history, and did nothing after that.

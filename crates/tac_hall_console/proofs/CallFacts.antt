@@ -5,7 +5,7 @@ use Rattle.std.proofs.KnownBytes.{Appends-nil}
 use Rattle.pol_edit.specs.declared.edit.Edit.{Edit}
 use Rattle.tac_console.specs.Batching.{action_of}
 use Rattle.tac_console.specs.ConsoleText.{asked_by}
-use Rattle.tac_forum.specs.History.{Opening}
+use Rattle.tac_forum.specs.Room.{Opening}
 use Rattle.tac_forum.specs.Seat.{Seated, IsMade, IsRefused, CatchesUp}
 use Rattle.tac_hall.specs.declared.call.Call.TheVariants as calls
 use Rattle.tac_hall.specs.declared.entry.Receipt.{Receipt}

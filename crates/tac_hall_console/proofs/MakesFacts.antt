@@ -9,7 +9,8 @@ use Rattle.tac_console.specs.Batching.{action_of}
 use Rattle.tac_console.specs.ConsoleText.{asked_by}
 use Rattle.tac_console.specs.declared.batching.Action.{Action}
 use Rattle.tac_console.specs.declared.batching.Action.TheVariants as actions
-use Rattle.tac_forum.specs.History.{Opening, view_of}
+use Rattle.tac_forum.specs.History.{view_of}
+use Rattle.tac_forum.specs.Room.{Opening}
 use Rattle.tac_forum.specs.History as history
 use Rattle.tac_forum.specs.Seat.{Seated, CatchesUp}
 use Rattle.tac_forum.specs.declared.limits.Rotated.{Rotated}

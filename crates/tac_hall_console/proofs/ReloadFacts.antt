@@ -1,7 +1,7 @@
 -- What came of another policy.
 use Rattle.std.proofs.Common.{◌≡◌, ℕ, true, false, List, ◌++◌, Some, None, Result, Ok, Err, OnOk, inl, inr, refl, is_ok, if◌then◌else◌}
 use Rattle.pol_text.specs.declared.subject.Subject.{Subject}
-use Rattle.tac_forum.specs.History.{Opening}
+use Rattle.tac_forum.specs.Room.{Opening}
 use Rattle.tac_forum.specs.Seat.{Seated, IsMade, IsRefused, CatchesUp}
 use Rattle.tac_hall.specs.declared.call.Call.TheVariants as calls
 use Rattle.tac_hall.specs.declared.entry.Receipt.{Receipt}

@@ -24,7 +24,7 @@ use Rattle.tac_audit.specs.Witness.{AreTold}
 use Rattle.tac_audit.specs.declared.notice.Typing.{Typing}
 use Rattle.tac_desk.specs.declared.query.Query.TheVariants as queries
 use Rattle.tac_desk.specs.declared.query.Report.TheVariants as reports
-use Rattle.tac_forum.specs.History.{Opening}
+use Rattle.tac_forum.specs.Room.{Opening}
 use Rattle.tac_forum.specs.History as history
 use Rattle.tac_forum.specs.Seat.{Seated, IsMade, IsRefused, IsRotated, IsUnrotated, CatchesUp}
 use Rattle.tac_forum.specs.declared.limits.Rotated.{Rotated}
@@ -103,7 +103,7 @@ ComesTo opening was (actions.Tell notice) =
 abbrev pub IsRotation : Opening → Seated → Outcome → Seated → Type 0
 IsRotation opening was (noticed notice) now = ⊥
 IsRotation opening was (made entry) now = ⊥
-IsRotation opening was (rotated rotation) now = IsRotated was rotation now
+IsRotation opening was (rotated rotation) now = IsRotated opening was rotation now
 IsRotation opening was (refused fault) now = IsUnrotated opening now fault × CatchesUp was now
 IsRotation opening was (replied line) now = ⊥
 IsRotation opening was (barred asked) now = ⊥

@@ -25,7 +25,7 @@ use Rattle.tac_worker.specs.AtDesk.{MakesOne, Refuses}
 use Rattle.tac_worker.specs.Linked.{put}
 use Rattle.tac_worker.specs.Served.{Sending, served, asks, bytes_sent}
 use Rattle.tac_worker.specs.Worked.{Exchange, asks_of, answers_of, in_view, WritesSome, Writes, IsServedBy}
-use Rattle.tac_forum.specs.History.{Opening}
+use Rattle.tac_forum.specs.Room.{Opening}
 use Rattle.tac_forum.specs.Seat.{Seated, CatchesUp}
 use Rattle.tac_loop.specs.Calls.{Call, exchanges, calls_of}
 use Rattle.tac_loop.specs.Board.{IsAccounted}

@@ -11,7 +11,8 @@ use Rattle.tac_hall.specs.History.{Legal}
 use Rattle.tac_hall.specs.Seat.{Sitting}
 use Rattle.tac_hall.specs.Shedding.{view_along}
 use Rattle.tac_forum.specs.declared.event.Event.{Event}
-use Rattle.tac_forum.specs.History.{Opening, calls_in, logs_of, joined, view_of}
+use Rattle.tac_forum.specs.History.{calls_in, logs_of, joined, view_of}
+use Rattle.tac_forum.specs.Room.{Opening}
 use Rattle.tac_worker.specs.Linked.{put}
 use Rattle.tac_worker.specs.Served.{served, bytes_sent}
 use Rattle.tac_worker.specs.Worked.{Exchange, answers_of, Calling, Traffic, IsServed}

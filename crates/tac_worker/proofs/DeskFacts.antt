@@ -1,6 +1,7 @@
 -- Calls that a seat of a shared desk makes for a connection.
 use Rattle.std.proofs.Common.{◌≡◌, ℕ, List, [], ◌∷◌, ◌++◌, map, sym, ap, subst, ◌∙◌, append_assoc, append-nil}
-use Rattle.tac_forum.specs.History.{Opening, view_of, rotations_of}
+use Rattle.tac_forum.specs.History.{view_of, rotations_of}
+use Rattle.tac_forum.specs.Room.{Opening}
 use Rattle.tac_forum.specs.Seat.{Seated, CatchesUp}
 use Rattle.tac_hall.specs.declared.entry.Made.{Made}
 use Rattle.tac_worker.specs.Worked.{Exchange, in_view, AreMade, AreAllMade}

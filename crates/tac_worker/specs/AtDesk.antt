@@ -2,7 +2,7 @@
 use Rattle.std.proofs.Common.{[], refl, sym, append-nil}
 use Rattle.std.proofs.lemmas.List.Elements.{All-nil}
 use Rattle.tac_conn.specs.declared.ask.Ask.{Ask}
-use Rattle.tac_forum.specs.History.{Opening}
+use Rattle.tac_forum.specs.Room.{Opening}
 use Rattle.tac_forum.specs.Seat.{Seated, IsMade, CatchesUp, IsRefused}
 use Rattle.tac_hall.specs.declared.call.Call.TheVariants as calls
 use Rattle.tac_hall.specs.declared.fault.HallFault.{HallFault}

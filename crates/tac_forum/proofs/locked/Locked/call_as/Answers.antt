@@ -2,7 +2,8 @@ use Rattle.std.proofs.Common.{◌≡◌, ℕ, ◌+◌, List, [], ◌∷◌, ◌+
 use Rattle.tac_roll.specs.Roll.{Knows, Keeping}
 use Rattle.tac_forum.specs.declared.event.Event.{Event}
 use Rattle.tac_forum.specs.declared.event.Event.TheVariants as events
-use Rattle.tac_forum.specs.History.{turned, IsCounted}
+use Rattle.tac_forum.specs.History.{turned}
+use Rattle.tac_forum.specs.Room.{IsLawful, IsCounted}
 use Rattle.tac_forum.specs.Seat.{Seated, IsMade}
 use Rattle.tac_forum.proofs.LockedFacts.{Calling, counted_called, made_called, caught_up_as}
 use Rattle.tac_forum.proofs.locked.Locked.call_as.Goals as goal
@@ -26,7 +27,25 @@ invariant_of-self-2 g c =
       ap (λ k. k.members) added.keeper ∙ ap (λ k. k.members) begun.keeper ∙ ap (λ k. k.members) same.0 ∙ c.self.invariant.2,
       subst (λ (h : List (ℕ × Event)). IsCounted g.J.Run.opening h (g.D.Desk.meaning c.answer.new.desk) (record { segment = c.in-Ok.next.segment; entries = c.in-Ok.next.entries + 1 }) c.is_stop-self-inside.result) (sym later)
           (counted_called calling number c.is_stop-self-inside.result c.is_stop-self-inside.ensures),
+      c.self.invariant.4,
     )
+
+pub returns-clause-lawful : goal.returns-clause-lawful
+returns-clause-lawful g c =
+    let same = c.compare-member.ensures.same in
+    let begun = c.begin_segment-member.ensures in
+    let added = c.add-member.ensures in
+    let judged = c.in-Ok.ensures in
+    let number = c.compare-member.result.number in
+    let event = events.Called c.args.call.now c.in-Ok-answer.answer in
+    let is : events.Called c.of.result c.of-2.result ≡ event = (λ i. events.Called (c.of.ensures i) (c.of-2.ensures i)) in
+    let counted = subst (λ (k : Keeping Event). IsCounted g.J.Run.opening k.all (g.D.Desk.meaning c.self.inside.desk) (record { segment = c.self.inside.segment; entries = c.self.inside.entries }) c.self.inside.closed) (sym same.0) c.self.invariant.3 in
+    let calling : Calling g.J.Run.opening c.compare-member.new.keeper.all (g.D.Desk.meaning c.self.inside.desk) (g.D.Desk.meaning c.answer.new.desk) c.in-Ok.next.is_due c.in-Ok.next.segment c.in-Ok.next.entries c.args.call.now c.in-Ok-answer.answer =
+    record { lawful = counted.lawful; goes_on = judged.0; turns = judged.1; place = judged.2; room = judged.3; answers = c.in-Ok-answer.ensures.answers } in
+    let later : c.add-member.new.keeper.all ≡ (c.compare-member.new.keeper.all ++ turned c.in-Ok.next.is_due number) ++ (number, event) ∷ [] =
+    ap (λ k. k.all) added.keeper ∙ (λ i. (ap (λ k. k.all) begun.keeper) i ++ (begun.member.1 i, is i) ∷ []) in
+    subst (λ (h : List (ℕ × Event)). IsLawful g.J.Run.opening h (g.D.Desk.meaning c.answer.new.desk)) (sym later)
+    (counted_called calling number c.is_stop-self-inside.result c.is_stop-self-inside.ensures).lawful
 
 pub returns-clause-made : goal.returns-clause-made
 returns-clause-made g c =

@@ -1,4 +1,4 @@
-use Rattle.std.proofs.Common.{ap}
+use Rattle.std.proofs.Common.{arith, ap}
 use Rattle.tac_forum.proofs.LockedFacts.{counted_first}
 use Rattle.tac_forum.proofs.locked.Locked.new.Goals as goal
 
@@ -8,4 +8,5 @@ invariant_of-result g c = (
   ap (λ o. o.limits) c.requires.opening,
   ap (λ k. k.members) c.requires.keeper,
   counted_first _ _ _ (ap (λ k. k.all) c.requires.keeper) (ap (λ o. o.meaning) c.requires.opening),
+  omega arith,
 )
