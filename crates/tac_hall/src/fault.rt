@@ -8,17 +8,17 @@ use std::alloc::{AllocError, AllocFailed};
 use std::error::Error;
 use std::fmt;
 
-/// Why a hall takes no call, has no seat, or isn't rotated. Of a call NoSeat is judged first, then
-/// Closed, then LogFull, then Memory; of a rotation by the hall the same, without NoSeat.
+/// Why a hall takes no call, has no seat, or isn't rotated. Closed is judged first, then LogFull,
+/// then Memory.
 #[derive(Clone, Copy, Debug, PartialEq, Eq)]
 pub enum HallFault {
     /// The log has as many calls as it may have; or, of a rotation, no number is left.
     LogFull,
-    /// Memory ran out.
+    /// Memory ran out for the answer to an ask.
     Memory,
     /// There was a Stop.
     Closed,
-    /// All seats were made; or the seat that calls is not one of this hall's.
+    /// All seats were made.
     NoSeat,
 }
 

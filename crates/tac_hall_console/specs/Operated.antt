@@ -24,19 +24,19 @@ use Rattle.tac_audit.specs.Witness.{AreTold}
 use Rattle.tac_audit.specs.declared.notice.Typing.{Typing}
 use Rattle.tac_desk.specs.declared.query.Query.TheVariants as queries
 use Rattle.tac_desk.specs.declared.query.Report.TheVariants as reports
-use Rattle.tac_forum.specs.Room.{Opening}
-use Rattle.tac_forum.specs.History as history
-use Rattle.tac_forum.specs.Seat.{Seated, IsMade, IsRefused, IsRotated, IsUnrotated, CatchesUp}
-use Rattle.tac_forum.specs.declared.limits.Rotated.{Rotated}
+use Rattle.tac_hall.specs.Room.{Opening}
+use Rattle.tac_hall.specs.History as history
+use Rattle.tac_hall.specs.Seat.{Seated, IsMade, IsRefused, IsRotated, IsUnrotated, CatchesUp}
+use Rattle.tac_hall.specs.declared.limits.Rotated.{Rotated}
 use Rattle.tac_hall.specs.declared.call.Call.{Call}
 use Rattle.tac_hall.specs.declared.call.Call.TheVariants as calls
 use Rattle.tac_hall.specs.declared.call.CallAnswer.{CallAnswer}
 use Rattle.tac_hall.specs.declared.call.CallAnswer.TheVariants as answers
-use Rattle.tac_hall.specs.declared.entry.Made.{Made}
-use Rattle.tac_hall.specs.declared.entry.Receipt.{Receipt}
+use Rattle.tac_hall.specs.View.{Made}
+use Rattle.tac_hall.specs.declared.receipt.Receipt.{Receipt}
 use Rattle.tac_hall.specs.declared.fault.HallFault.{HallFault}
 use Rattle.tac_hall.specs.FaultText.{fault_text}
-use Rattle.tac_hall.specs.Seat.{made_of}
+use Rattle.tac_hall.specs.View.{made_of}
 use Rattle.tac_hall_console.specs.declared.fault.OperatorFault.{OperatorFault}
 use Rattle.tac_hall_console.specs.declared.fault.OperatorFault.TheVariants as faults
 use Rattle.tac_hall_console.specs.Commands.{ended_lines, is_rotate, is_reload, is_reload_devices}

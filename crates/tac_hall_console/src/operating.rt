@@ -14,7 +14,7 @@ use std::sync::Wait;
 use tac_audit::{Typing, Witness};
 use tac_console::Batch;
 use tac_desk::Desk;
-use tac_forum::{Run, Seat, SharedDesk};
+use tac_hall::{Run, Seat, Hall};
 use tac_hall::Call;
 
 // Makes the Stop, however the lines before it went. That it is refused is told, unless the console
@@ -22,7 +22,7 @@ use tac_hall::Call;
 fn stop<H: Wait, J: Run, D: Desk, W: Write>(
     rt: &H,
     alloc: Global,
-    desk: &SharedDesk<J, D>,
+    desk: &Hall<J, D>,
     seat: &mut Seat<J>,
     writer: &mut W,
     listened: Result<(), OperatorFault>,
@@ -70,7 +70,7 @@ fn stop<H: Wait, J: Run, D: Desk, W: Write>(
 /// Linear in what is read and written, but for what the desk, the source and the witness take.
 pub fn operate<H, J: Run, D: Desk, S: Source, V: Witness<Typing>, R: Read, W: Write>(
     rt: &H,
-    desk: &SharedDesk<J, D>,
+    desk: &Hall<J, D>,
     source: &S,
     seat: Seat<J>,
     witness: &mut V,

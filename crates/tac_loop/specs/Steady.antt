@@ -2,13 +2,13 @@
 use Rattle.std.proofs.Common.{◌≡◌, ℕ, List, [], ◌∷◌, ◌++◌, ap, subst, ◌∙◌, append_assoc}
 use Rattle.std.specs.Prelude.{◌≢◌}
 use Rattle.std.proofs.lemmas.List.Elements.{All-append}
-use Rattle.tac_forum.specs.declared.event.Event.{Event}
-use Rattle.tac_forum.specs.History.{before_call, view_of, rotations_of}
-use Rattle.tac_forum.specs.Room.{Opening}
-use Rattle.tac_forum.specs.Seat.{Seated, IsMade, CatchesUp}
+use Rattle.tac_hall.specs.declared.event.Event.{Event}
+use Rattle.tac_hall.specs.History.{before_call, view_of, rotations_of}
+use Rattle.tac_hall.specs.Room.{Opening}
+use Rattle.tac_hall.specs.Seat.{Seated, IsMade, CatchesUp}
 use Rattle.tac_hall.specs.declared.call.Call.TheVariants as calls
-use Rattle.tac_hall.specs.declared.entry.Made.{Made}
-use Rattle.tac_hall.specs.Seat.{made_of, AreBelow}
+use Rattle.tac_hall.specs.View.{Made}
+use Rattle.tac_hall.specs.View.{made_of, AreBelow}
 use Rattle.tac_roll.specs.Roll.{AreOthers}
 use Rattle.tac_worker.specs.AtDesk.{MakesOne}
 use Rattle.tac_worker.specs.Worked.{Exchange, receipt_for}

@@ -2,7 +2,7 @@
 
 use std::sync::Wait;
 use tac_desk::Desk;
-use tac_forum::Run;
+use tac_hall::Run;
 use tac_worker::{Caller, DeskCaller, HallCaller};
 
 /// A caller whose rests add up, and between calls don't count: what it may have seen before a call

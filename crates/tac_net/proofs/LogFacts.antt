@@ -12,8 +12,8 @@ use Rattle.tac_audit.specs.Noted.{noted_of_each, AreAnswered}
 use Rattle.tac_audit.specs.Witness.{AreTold}
 use Rattle.tac_audit.proofs.NoticeFacts.{are_answered}
 use Rattle.tac_hall.specs.declared.fault.HallFault.{HallFault}
-use Rattle.tac_forum.specs.Room.{Opening}
-use Rattle.tac_forum.specs.Seat.{Seated}
+use Rattle.tac_hall.specs.Room.{Opening}
+use Rattle.tac_hall.specs.Seat.{Seated}
 use Rattle.tac_hall_console.specs.declared.fault.OperatorFault.{OperatorFault}
 use Rattle.tac_hall_console.specs.Operated.{IsOperated}
 use Rattle.tac_journal.specs.Device.{HasLines}

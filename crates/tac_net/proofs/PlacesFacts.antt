@@ -9,13 +9,13 @@ use Rattle.tac_desk.specs.Meaning.{Meaning}
 use Rattle.tac_desk.specs.Asking.{asked}
 use Rattle.tac_audit.specs.declared.notice.Notice.{Notice}
 use Rattle.tac_hall.specs.declared.fault.HallFault.{HallFault}
-use Rattle.tac_hall.specs.declared.entry.Entry.{Entry}
-use Rattle.tac_hall.specs.declared.entry.Made.{Made}
-use Rattle.tac_hall.specs.History.{Answers, Legal, at_first, and_then}
-use Rattle.tac_hall.specs.Shedding.{view_of, view_along}
-use Rattle.tac_forum.specs.History.{logs_of, joined}
-use Rattle.tac_forum.specs.History.{view_of as view_in}
-use Rattle.tac_forum.proofs.LogFacts.{logs_law}
+use Rattle.tac_hall.specs.Calls.{Entry}
+use Rattle.tac_hall.specs.View.{Made}
+use Rattle.tac_hall.specs.Calls.{Answers, Legal, at_first, and_then}
+use Rattle.tac_hall.specs.View.{view_of, view_along}
+use Rattle.tac_hall.specs.History.{logs_of, joined}
+use Rattle.tac_hall.specs.History.{view_of as view_in}
+use Rattle.tac_hall.proofs.LogFacts.{logs_law}
 use Rattle.tac_worker.proofs.DeskFacts.{number_after, view_after}
 use Rattle.tac_worker.proofs.HallFacts.{view_after as hall_view_after}
 use Rattle.tac_worker.proofs.ServedFacts.{bytes_sent-append}
@@ -25,8 +25,8 @@ use Rattle.tac_worker.specs.AtDesk.{MakesOne, Refuses}
 use Rattle.tac_worker.specs.Linked.{put}
 use Rattle.tac_worker.specs.Served.{Sending, served, asks, bytes_sent}
 use Rattle.tac_worker.specs.Worked.{Exchange, asks_of, answers_of, in_view, WritesSome, Writes, IsServedBy}
-use Rattle.tac_forum.specs.Room.{Opening}
-use Rattle.tac_forum.specs.Seat.{Seated, CatchesUp}
+use Rattle.tac_hall.specs.Room.{Opening}
+use Rattle.tac_hall.specs.Seat.{Seated, CatchesUp}
 use Rattle.tac_loop.specs.Calls.{Call, exchanges, calls_of}
 use Rattle.tac_loop.specs.Board.{IsAccounted}
 use Rattle.tac_loop.proofs.AccountFacts.{served_by_its_own, open_by_its_own}

@@ -5,8 +5,8 @@ use Rattle.tac_audit.specs.declared.event.Named.{Named}
 use Rattle.tac_audit.specs.declared.notice.Notice.{Notice}
 use Rattle.tac_audit.specs.Noted.{AreAnswered}
 use Rattle.tac_audit.specs.Witness.{AreTold}
-use Rattle.tac_forum.specs.Room.{Opening}
-use Rattle.tac_forum.specs.Seat.{Seated, CatchesUp}
+use Rattle.tac_hall.specs.Room.{Opening}
+use Rattle.tac_hall.specs.Seat.{Seated, CatchesUp}
 use Rattle.tac_journal.specs.Log.{Keeping}
 use Rattle.tac_worker.specs.AtDesk as at_desk
 use Rattle.tac_wire.specs.declared.door.Door.{Door}

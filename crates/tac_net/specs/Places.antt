@@ -3,16 +3,16 @@ use Rattle.std.specs.Prelude.{◌≡◌, ◌<◌, ℕ, zero, suc, List, [], ◌�
 use Rattle.std.specs.Prelude.{Bool, Option, Some, None}
 use Rattle.tac_wire.specs.declared.door.Door.{Door}
 use Rattle.tac_desk.specs.Meaning.{Meaning}
-use Rattle.tac_hall.specs.declared.entry.Entry.{Entry}
-use Rattle.tac_hall.specs.declared.entry.Made.{Made}
+use Rattle.tac_hall.specs.Calls.{Entry}
+use Rattle.tac_hall.specs.View.{Made}
 use Rattle.tac_worker.specs.declared.worked.End.{End}
 use Rattle.tac_worker.specs.declared.worked.End.TheVariants.{Memory, WriteFault, Unwitnessed}
-use Rattle.tac_hall.specs.History.{Legal}
+use Rattle.tac_hall.specs.Calls.{Legal}
 use Rattle.tac_hall.specs.Seat.{Sitting}
-use Rattle.tac_hall.specs.Shedding.{view_along}
-use Rattle.tac_forum.specs.declared.event.Event.{Event}
-use Rattle.tac_forum.specs.History.{calls_in, logs_of, joined, view_of}
-use Rattle.tac_forum.specs.Room.{Opening}
+use Rattle.tac_hall.specs.View.{view_along}
+use Rattle.tac_hall.specs.declared.event.Event.{Event}
+use Rattle.tac_hall.specs.History.{calls_in, logs_of, joined, view_of}
+use Rattle.tac_hall.specs.Room.{Opening}
 use Rattle.tac_worker.specs.Linked.{put}
 use Rattle.tac_worker.specs.Served.{served, bytes_sent}
 use Rattle.tac_worker.specs.Worked.{Exchange, answers_of, Calling, Traffic, IsServed}

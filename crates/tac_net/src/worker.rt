@@ -30,7 +30,7 @@ use tac_audit::Named;
 use tac_desk::Desk;
 use tac_digests::{Done, Job};
 use tac_first::Shown;
-use tac_forum::{Run, Seat};
+use tac_hall::{Run, Seat};
 use tac_journal::{Log, LogFiles, Moments};
 use tac_loop::{Stop, Switchboard};
 use tac_status::Departure;

@@ -25,7 +25,7 @@ use std::rt::Files;
 use tac_desks::MAX_RECORDS;
 use tac_devices::KeyDoubt;
 use tac_devices_lint::key_remark;
-use tac_forum::Limits;
+use tac_hall::Limits;
 use tac_io::{InputFault, read_whole};
 use tac_journal::{OUTPUT_NAME, STANDARD_OUTPUT};
 use tac_keep::{Tray, Use};

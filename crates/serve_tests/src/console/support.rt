@@ -13,7 +13,7 @@ use std::sync::Wait;
 use std::test::Fail;
 use tac_audit::{Typing, Typist, Witness};
 use tac_desk::Desk;
-use tac_forum::{EmptyHistory, Limits, Run, Seat, SharedDesk};
+use tac_hall::{EmptyHistory, Limits, Run, Seat, Hall};
 use tac_hall::{Call, HallFault};
 use tac_hall_console::{OperatorFault, Source, Unread, no_devices, operate};
 use tac_journal::Typists;
@@ -63,7 +63,7 @@ type Ended = (Result<(), OperatorFault>, Option<HallFault>);
 // be stopped. Its seat comes back beside that.
 fn operates_at<J: Run, D: Desk, V: Witness<Typing>, I: Read, O: Write, R: Wait + AllocGlobal>(
     rt: &R,
-    desk: &SharedDesk<J, D>,
+    desk: &Hall<J, D>,
     is_stopped: bool,
     other: &mut Seat<J>,
     witness: &mut V,
@@ -92,7 +92,7 @@ fn operates_of<J: Run, D: Desk, V: Witness<Typing>, I: Read, O: Write, R: Wait +
     requires roll { history ≡ J.roll }
     requires opening { record { meaning = D.meaning desk; limits = course.limits } ≡ J.opening }
 {
-    let desk: SharedDesk<J, D> = SharedDesk::new(history, desk, course.limits);
+    let desk: Hall<J, D> = Hall::new(history, desk, course.limits);
     let mut seats = Vec::with_capacity(rt.alloc(), 2)?;
     let mut other = desk.seat(rt)?;
     let is_stopped = course.is_stopped;

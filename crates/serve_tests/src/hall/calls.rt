@@ -6,7 +6,7 @@ use crate::hall::support::{OPS, converses, desk_of};
 use pol_text::Policy;
 use std::sync::Wait;
 use std::test::Fail;
-use tac_forum::Limits;
+use tac_hall::Limits;
 use tac_hall::Hall;
 
 fn number(word: Option<&str>) -> Result<usize, Fail> {

@@ -11,13 +11,13 @@ use std::sync::Wait;
 use std::test::Fail;
 use std::thread::{Threads, map_vec};
 use tac_desk::Desk;
-use tac_forum::{EmptyHistory, Limits, Run, Seat, SharedDesk};
+use tac_hall::{EmptyHistory, Limits, Run, Seat, Hall};
 use tac_hall::{Call, HallFault, Receipt, Segment};
 
 /// No log of these tests takes nearly so many calls, so that no segment begins by itself.
 pub(crate) const NEVER: usize = 9_999;
 
-impl<J: Run, D: Desk> Called for SharedDesk<J, D> {
+impl<J: Run, D: Desk> Called for Hall<J, D> {
     type Seat = Seat<J>;
 
     fn sit<R: Wait>(&self, rt: &R) -> Result<Seat<J>, HallFault> {
@@ -42,7 +42,7 @@ impl<J: Run, D: Desk> Called for SharedDesk<J, D> {
         }
     }
 
-    fn end(self, seats: Vec<Seat<J>>) -> Result<(), (SharedDesk<J, D>, Vec<Seat<J>>)> {
+    fn end(self, seats: Vec<Seat<J>>) -> Result<(), (Hall<J, D>, Vec<Seat<J>>)> {
         match self.close(seats) {
             Ok(_) => Ok(()),
             Err(back) => Err(back),
@@ -67,7 +67,7 @@ fn holds<J: Run, D: Desk, R: Wait + AllocGlobal>(
     requires roll { history ≡ J.roll }
     requires opening { record { meaning = D.meaning desk; limits = talk.limits } ≡ J.opening }
 {
-    let desk: SharedDesk<J, D> = SharedDesk::new(history, desk, talk.limits);
+    let desk: Hall<J, D> = Hall::new(history, desk, talk.limits);
     converses(rt, desk, talk.lines)
 }
 
@@ -84,7 +84,7 @@ pub(crate) fn shares<D: Desk, R: Wait + AllocGlobal>(
 // A seat that has asked so often.
 fn asked<J: Run, D: Desk, R: Wait + AllocGlobal>(
     rt: &R,
-    desk: &SharedDesk<J, D>,
+    desk: &Hall<J, D>,
     mut seat: Seat<J>,
     asks: usize,
 ) -> Seat<J> {
@@ -106,7 +106,7 @@ fn asks_at_once<J: Run + Send + Sync, D: Desk + Send, R: Threads + Wait + Sync +
     requires roll { history ≡ J.roll }
     requires opening { record { meaning = D.meaning desk; limits = talk.limits } ≡ J.opening }
 {
-    let desk: SharedDesk<J, D> = SharedDesk::new(history, desk, talk.limits);
+    let desk: Hall<J, D> = Hall::new(history, desk, talk.limits);
     let seats = seats_of(rt, &desk, 3)?;
     let mut seats = map_vec(
         rt,

@@ -11,7 +11,7 @@ use std::sync::Wait;
 use std::test::Fail;
 use tac_desk::Desk;
 use tac_desks::PlainDesk;
-use tac_forum::{EmptyHistory, Limits, Run, SharedDesk};
+use tac_hall::{EmptyHistory, Limits, Run, Hall};
 use tac_hall::{Call, Hall, Seat};
 use tac_worker::{DeskCaller, HallCaller};
 
@@ -103,7 +103,7 @@ fn serves_of<J: Run, D: Desk, R: Wait + AllocGlobal>(
     requires roll { history ≡ J.roll }
     requires opening { record { meaning = D.meaning desk; limits = limits } ≡ J.opening }
 {
-    let desk: SharedDesk<J, D> = SharedDesk::new(history, desk, limits);
+    let desk: Hall<J, D> = Hall::new(history, desk, limits);
     let mut seats = Vec::with_capacity(rt.alloc(), 2)?;
     let mut other = desk.seat(rt)?;
     if course.is_stopped && desk.call(rt, &mut other, &Call::Stop).is_err() {

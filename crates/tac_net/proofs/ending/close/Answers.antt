@@ -1,6 +1,6 @@
 use Rattle.std.proofs.Common.{List, [], ◌∷◌, ◌++◌, refl, ap, ◌∙◌, subst}
-use Rattle.tac_forum.specs.Seat.{Seated}
-use Rattle.tac_forum.specs.Closing.{IsSettled}
+use Rattle.tac_hall.specs.Seat.{Seated}
+use Rattle.tac_hall.specs.Closing.{IsSettled}
 use Rattle.tac_net.proofs.ending.close.Goals as goal
 
 pub returns-in-Ok : goal.returns-in-Ok
