@@ -32,11 +32,10 @@ use Rattle.tac_hall.specs.declared.call.Call.{Call}
 use Rattle.tac_hall.specs.declared.call.Call.TheVariants as calls
 use Rattle.tac_hall.specs.declared.call.CallAnswer.{CallAnswer}
 use Rattle.tac_hall.specs.declared.call.CallAnswer.TheVariants as answers
-use Rattle.tac_hall.specs.View.{Made}
+use Rattle.tac_hall.specs.View.{Made, made_of}
 use Rattle.tac_hall.specs.declared.receipt.Receipt.{Receipt}
 use Rattle.tac_hall.specs.declared.fault.HallFault.{HallFault}
 use Rattle.tac_hall.specs.FaultText.{fault_text}
-use Rattle.tac_hall.specs.View.{made_of}
 use Rattle.tac_hall_console.specs.declared.fault.OperatorFault.{OperatorFault}
 use Rattle.tac_hall_console.specs.declared.fault.OperatorFault.TheVariants as faults
 use Rattle.tac_hall_console.specs.Commands.{ended_lines, is_rotate, is_reload, is_reload_devices}
@@ -222,7 +221,7 @@ answer_text (calls.Query query) (answers.Query answer) = query_answer query answ
 answer_text call answer = []
 
 abbrev pub refusal_line : HallFault → List ℕ
-refusal_line fault = codes "hall " ++ fault_text fault ++ 10 ∷ []
+refusal_line fault = codes "refused " ++ fault_text fault ++ 10 ∷ []
 
 -- the number of the segment, and how many calls its log has
 abbrev pub rotated_line : Rotated → List ℕ

@@ -23,8 +23,7 @@ use tac_console::{
     write_notice, write_query_answer,
 };
 use tac_desk::Desk;
-use tac_hall::{Rotated, Run, Seat, Hall};
-use tac_hall::{Call, CallAnswer, HallFault};
+use tac_hall::{Call, CallAnswer, Hall, HallFault, Rotated, Run, Seat};
 
 // Room for one line, since most answers are one.
 const LINE: usize = 64;
@@ -82,7 +81,7 @@ pub(crate) fn write_answer(
 pub(crate) fn write_refusal(out: &mut Vec<u8>, fault: HallFault) -> Result<(), AllocError>
     ensures { OnOk result (out.new.items ≡ out.old.items ++ refusal_line fault) }
 {
-    match writeln!(out, "hall {fault}") {
+    match writeln!(out, "refused {fault}") {
         Ok(()) => Ok(()),
         Err(_) => Err(AllocError),
     }

@@ -14,8 +14,7 @@ use std::sync::Wait;
 use tac_audit::{Typing, Witness};
 use tac_console::Batch;
 use tac_desk::Desk;
-use tac_hall::{Run, Seat, Hall};
-use tac_hall::Call;
+use tac_hall::{Call, Hall, Run, Seat};
 
 // Makes the Stop, however the lines before it went. That it is refused is told, unless the console
 // has failed.
@@ -41,7 +40,7 @@ fn stop<H: Wait, J: Run, D: Desk, W: Write>(
 /// The console of a shared desk (docs/CONSOLE.md): answers each line before it waits for the next.
 /// A line that is an edit or a question is one call of this seat, and its answer is printed.
 /// Between `begin` and `commit` edits are kept instead, without a call, and the `commit` is one
-/// call with all of them. A call that is refused is told as `hall N REFUSAL`; no batch is open
+/// call with all of them. A call that is refused is told as `refused N REFUSAL`; no batch is open
 /// after that of a `commit` either. The line `rotate` ends the present segment, and `reload` puts
 /// the policy of the source in the place of the present one, in one call, after one that asks for
 /// that. A policy without a user is told as `fault NoUser` where the present one has one, and isn't

@@ -16,8 +16,7 @@ use std::alloc::{AllocError, Global};
 use std::io::Write;
 use std::sync::Wait;
 use tac_desk::{Desk, Query, Report};
-use tac_hall::{Run, Seat, Hall};
-use tac_hall::{Call, CallAnswer};
+use tac_hall::{Call, CallAnswer, Hall, Run, Seat};
 
 // What is told of a policy that has no user, where the present one has some.
 const NO_USER: &[u8] = b"fault NoUser\n";

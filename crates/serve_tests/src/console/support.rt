@@ -13,8 +13,7 @@ use std::sync::Wait;
 use std::test::Fail;
 use tac_audit::{Typing, Typist, Witness};
 use tac_desk::Desk;
-use tac_hall::{EmptyHistory, Limits, Run, Seat, Hall};
-use tac_hall::{Call, HallFault};
+use tac_hall::{Call, EmptyHistory, Hall, HallFault, Limits, Run, Seat};
 use tac_hall_console::{OperatorFault, Source, Unread, no_devices, operate};
 use tac_journal::Typists;
 
