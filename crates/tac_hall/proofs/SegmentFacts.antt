@@ -1,14 +1,14 @@
 -- The segments of a history to which something is added.
-use Rattle.std.proofs.Common.{◌≡◌, ℕ, zero, suc, ◌+◌, List, [], ◌∷◌, ◌++◌, map, length, length-append, append-nil, append_assoc, Bool, true, false, ◌||◌, arith, refl, sym, ap, ◌∙◌, subst}
+use Rattle.std.proofs.Common.{◌≡◌, ℕ, suc, ◌+◌, List, [], ◌∷◌, ◌++◌, map, length, length-append, append-nil, append_assoc, Bool, true, false, ◌||◌, arith, refl, sym, ap, ◌∙◌, subst}
 use Rattle.tac_desk.specs.Meaning.{Meaning}
 use Rattle.tac_hall.specs.declared.call.Call.{Call}
 use Rattle.tac_hall.specs.declared.call.CallAnswer.{CallAnswer}
 use Rattle.tac_hall.specs.Calls.{Entry}
-use Rattle.tac_hall.specs.Calls.{Answers, is_stop, is_closed, Legal, at_first, and_then}
+use Rattle.tac_hall.specs.Calls.{Answers, is_stop, is_closed, at_first, and_then}
 use Rattle.tac_hall.specs.Segments.{Stretch, IsStretch}
 use Rattle.tac_hall.specs.declared.event.Event.{Event}
 use Rattle.tac_hall.specs.declared.event.Event.TheVariants as events
-use Rattle.tac_hall.specs.History.{Place, calls_in, place_of, log_with, log_from, log_of, ended_by, ended_from, ended_of, logs_from, logs_of, joined, turned, next_segment}
+use Rattle.tac_hall.specs.History.{Place, calls_in, place_of, log_with, log_from, log_of, ended_by, ended_from, ended_of, logs_from, joined, turned, next_segment}
 use Rattle.tac_hall.specs.Segments.{AreJoined, IsPresent}
 use Rattle.tac_hall.proofs.HistoryFacts.{place_called, place_ended}
 

@@ -1,5 +1,5 @@
 -- The order in which the calls of a seat stand.
-use Rattle.std.proofs.Common.{◌≡◌, ◌≤◌, ◌<◌, ℕ, suc, List, [], ◌∷◌, ◌++◌, append-nil, append_assoc, Bool, true, false, arith, refl, sym, ap, subst}
+use Rattle.std.proofs.Common.{◌≡◌, ◌≤◌, ◌<◌, ℕ, suc, List, [], ◌∷◌, ◌++◌, append-nil, append_assoc, Bool, true, false, arith, refl, sym, subst}
 use Rattle.std.specs.Prelude.{◌==◌, if◌then◌else◌}
 use Rattle.tac_hall.specs.View.{Made}
 use Rattle.tac_hall.specs.View.{IsBelow, AreBelow, AreFrom, Rises}

@@ -2,7 +2,9 @@
 
 ghost use Rattle.std.specs.Prelude.{◌≡◌, All, IfOk, IfErr, OnErr};
 ghost use Rattle.tac_hall.specs.Closing.{HasAll, IsSettledAt};
+ghost use Rattle.tac_hall.specs.Room.{Standing, IsLawful};
 ghost use Rattle.tac_hall.specs.Seat as seats;
+ghost use Rattle.tac_hall.specs.Steps as steps;
 ghost use Rattle.tac_hall.specs.declared.fault.HallFault.TheVariants.{NoSeat};
 ghost use Rattle.tac_roll.specs.Roll.{Knows};
 
@@ -58,6 +60,10 @@ impl<J: Run, D: Desk> Hall<J, D> {
     pub fn seat<R: Wait>(&self, rt: &R) -> Result<Seat<J>, HallFault>
         ensures fresh { IfOk result seats.IsFresh }
         ensures fault { IfErr result (λ fault. fault ≡ NoSeat) }
+
+        // One step of what lies under the lock has this result.
+        ensures room { (was : Standing) × (then : Standing)
+            × IsLawful J.opening was.history was.meaning × steps.Sits was result then }
     {
         take(rt, &self.room).seat(&self.roll)
     }
@@ -94,6 +100,12 @@ impl<J: Run, D: Desk> Hall<J, D> {
             seats.IsMade J.opening seat.old call.now receipt seat.new) }
         ensures err { OnErr result (seats.CatchesUp seat.old seat.new) }
         ensures refused { IfErr result (seats.IsRefused J.opening seat.new call.now) }
+
+        // One step of what lies under the lock has this result, and the seat has seen all of it.
+        ensures room { (was : Standing) × (then : Standing)
+            × IsLawful J.opening was.history was.meaning
+            × steps.Calls J.opening was seat.old.number call.now result then
+            × (seat.new ≡ record seat.old { seen = then.history }) }
     {
         take(rt, &self.room).call(&self.roll, seat, call)
     }
@@ -108,6 +120,12 @@ impl<J: Run, D: Desk> Hall<J, D> {
             seats.IsRotated J.opening seat.old rotated seat.new) }
         ensures err { OnErr result (seats.CatchesUp seat.old seat.new) }
         ensures refused { IfErr result (seats.IsUnrotated J.opening seat.new) }
+
+        // One step of what lies under the lock has this result, and the seat has seen all of it.
+        ensures room { (was : Standing) × (then : Standing)
+            × IsLawful J.opening was.history was.meaning
+            × steps.Rotates J.opening was seat.old.number result then
+            × (seat.new ≡ record seat.old { seen = then.history }) }
     {
         take(rt, &self.room).rotate(&self.roll, seat)
     }

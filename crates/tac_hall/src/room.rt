@@ -136,6 +136,7 @@ impl<J: Run, D: Desk> Room<J, D> {
         ensures sits { steps.Sits self.old result self.new }
         ensures fresh { IfOk result seats.IsFresh }
         ensures fault { IfErr result (λ fault. fault ≡ NoSeat) }
+        ensures was { rooms.IsLawful J.opening self.old.history self.old.meaning }
         ensures lawful { rooms.IsLawful J.opening self.new.history self.new.meaning }
     {
         if self.seats >= MAX_SEATS {
@@ -209,6 +210,7 @@ impl<J: Run, D: Desk> Room<J, D> {
         ensures member { seats.IsSeatOf J.roll number (Some result.0) }
         ensures calls { steps.Calls J.opening self.old number call.now result.1 self.new }
         ensures seen { result.0 ≡ record member { seen = self.new.history } }
+        ensures was { rooms.IsLawful J.opening self.old.history self.old.meaning }
         ensures lawful { rooms.IsLawful J.opening self.new.history self.new.meaning }
         ensures made { IfOk result.1 (λ receipt. seats.IsMade J.opening
             (seats.seated_as (Some member)) call.now receipt
@@ -261,6 +263,7 @@ impl<J: Run, D: Desk> Room<J, D> {
         requires { roll.now ≡ J.roll }
         ensures calls { steps.Calls J.opening self.old seat.old.number call.now result self.new }
         ensures seen { seat.new ≡ record seat.old { seen = self.new.history } }
+        ensures was { rooms.IsLawful J.opening self.old.history self.old.meaning }
         ensures lawful { rooms.IsLawful J.opening self.new.history self.new.meaning }
         ensures made { IfOk result (λ receipt.
             seats.IsMade J.opening seat.old call.now receipt seat.new) }
@@ -287,6 +290,7 @@ impl<J: Run, D: Desk> Room<J, D> {
         ensures member { seats.IsSeatOf J.roll number (Some result.0) }
         ensures rotates { steps.Rotates J.opening self.old number result.1 self.new }
         ensures seen { result.0 ≡ record member { seen = self.new.history } }
+        ensures was { rooms.IsLawful J.opening self.old.history self.old.meaning }
         ensures lawful { rooms.IsLawful J.opening self.new.history self.new.meaning }
         ensures rotated { IfOk result.1 (λ rotated. seats.IsRotated J.opening
             (seats.seated_as (Some member)) rotated (seats.seated_as (Some result.0))) }
@@ -322,6 +326,7 @@ impl<J: Run, D: Desk> Room<J, D> {
         requires { roll.now ≡ J.roll }
         ensures rotates { steps.Rotates J.opening self.old seat.old.number result self.new }
         ensures seen { seat.new ≡ record seat.old { seen = self.new.history } }
+        ensures was { rooms.IsLawful J.opening self.old.history self.old.meaning }
         ensures lawful { rooms.IsLawful J.opening self.new.history self.new.meaning }
         ensures rotated { IfOk result (λ rotated.
             seats.IsRotated J.opening seat.old rotated seat.new) }

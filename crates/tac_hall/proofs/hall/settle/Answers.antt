@@ -1,4 +1,4 @@
-use Rattle.std.proofs.Common.{◌≡◌, sym, ap, subst, ◌∙◌}
+use Rattle.std.proofs.Common.{sym, ap, subst, ◌∙◌}
 use Rattle.tac_roll.specs.Roll.{AreGiven}
 use Rattle.tac_hall.specs.History.{place_of}
 use Rattle.tac_hall.specs.Room.{Standing, IsLawful}
