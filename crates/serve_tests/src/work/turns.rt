@@ -4,26 +4,74 @@ use crate::hall::shared::NEVER;
 use crate::work::packets::{LOGINS, PASSES, PERMISSIONS, QUESTIONS};
 use crate::work::pipe::{Pace, Pipe, WHOLE};
 use crate::work::support::{Course, door, runs_for_bob};
+use std::alloc::Global;
 use std::sync::Wait;
 use std::test::Fail;
 use tac_audit::Nobody;
 use tac_hall::Limits;
 use tac_loop::{Steady, Switchboard};
+use tac_wire::Door;
 use tac_worker::{CHUNK, Terms};
 
 // Connections that give these bytes at this pace have so many turns each, one connection after another, so
-// many times: why each is left each time, and what was written, first on the first.
+// many times. Why each is left each time, if that is asked, and the first bytes of what is written, first
+// on the first.
 #[derive(Clone, Copy)]
-struct Turns<'a> {
-    asked: &'a [Vec<u8>],
+struct Turns {
+    asked: &'static [&'static str],
     pace: Pace,
     turns: u32,
     times: u32,
-    seen: Option<&'a str>,
-    written: &'a [u8],
+    seen: Option<&'static str>,
+    written: &'static [&'static str],
+    bytes: usize,
 }
 
-impl Course for Turns<'_> {
+// These bytes, one text after another.
+fn decoded(alloc: Global, texts: &[&str]) -> Result<Vec<u8>, Fail> {
+    let mut bytes = Vec::new(alloc);
+    for text in texts {
+        bytes.extend_from_slice(hex::decode(alloc, text.as_bytes())?.as_slice())?;
+    }
+    Ok(bytes)
+}
+
+// What is seen, and what is written; the caller comes back.
+fn leaves<'x, C: Steady>(
+    caller: C,
+    alloc: Global,
+    door: &'x Door,
+    asked: &'x [Vec<u8>],
+    course: Turns,
+) -> Result<(C, String, Vec<u8>), Fail> {
+    let terms = Terms { alloc, door };
+    let mut board = Switchboard::new(alloc, caller);
+    let (mut keys, mut seen, mut written) = (Vec::new(alloc), String::new(alloc), Vec::new(alloc));
+    for bytes in asked {
+        match board.add(
+            &terms,
+            Nobody,
+            Pipe::new(alloc, bytes.as_slice(), course.pace),
+        ) {
+            Ok(key) => keys.push(key)?,
+            Err(_) => return Err(Fail::from("not added")),
+        }
+    }
+    let mut chunk = [0; CHUNK];
+    for _ in 0..course.times {
+        for key in keys.iter() {
+            let stop = board.serve(*key, &terms, &mut chunk, course.turns);
+            write!(seen, "{stop:?} ")?;
+        }
+    }
+    for key in keys.iter() {
+        let (_, pipe) = board.remove(*key).ok_or("no connection")?.into_parts();
+        written.extend_from_slice(pipe.taken.as_slice())?;
+    }
+    Ok((board.into_caller(), seen, written))
+}
+
+impl Course for Turns {
     fn opens(&self) -> (Limits, bool) {
         let limits = Limits {
             calls: 99,
@@ -34,42 +82,22 @@ impl Course for Turns<'_> {
 
     fn runs<C: Steady, R: Wait + AllocGlobal>(&self, rt: &R, caller: C) -> Result<C, Fail> {
         let alloc = rt.alloc();
+        let mut asked = Vec::new(alloc);
+        for text in self.asked {
+            asked.push(hex::decode(alloc, text.as_bytes())?)?;
+        }
         let door = door()?;
-        let terms = Terms { alloc, door: &door };
-        let mut board = Switchboard::new(alloc, caller);
-        let (mut keys, mut seen) = (Vec::new(alloc), String::new(alloc));
-        let mut written = Vec::new(alloc);
-        for bytes in self.asked {
-            match board.add(
-                &terms,
-                Nobody,
-                Pipe::new(alloc, bytes.as_slice(), self.pace),
-            ) {
-                Ok(key) => keys.push(key)?,
-                Err(_) => return Err(Fail::from("not added")),
+        let (caller, seen, written) = leaves(caller, alloc, &door, asked.as_slice(), *self)?;
+        if let Some(wanted) = self.seen {
+            if seen.as_str().trim_end() != wanted {
+                return Err(Fail::from(seen));
             }
         }
-        let mut chunk = [0; CHUNK];
-        for _ in 0..self.times {
-            for key in keys.iter() {
-                let stop = board.serve(*key, &terms, &mut chunk, self.turns);
-                write!(seen, "{stop:?} ")?;
-            }
-        }
-        for key in keys.iter() {
-            let (_, pipe) = board.remove(*key).ok_or("no connection")?.into_parts();
-            written.extend_from_slice(pipe.taken.as_slice())?;
-        }
-        if self
-            .seen
-            .is_some_and(|wanted| seen.as_str().trim_end() != wanted)
-        {
-            return Err(Fail::from(seen));
-        }
-        if written.as_slice() != self.written {
+        let wanted = decoded(alloc, self.written)?;
+        if written.len() != self.bytes || !wanted.as_slice().starts_with(written.as_slice()) {
             return Err(Fail::from("other bytes"));
         }
-        Ok(board.into_caller())
+        Ok(caller)
     }
 }
 
@@ -79,18 +107,17 @@ fn is_left<R: Wait + AllocGlobal>(
     pace: Pace,
     turns: u32,
     times: u32,
-    wanted: (&str, usize),
+    wanted: (&'static str, usize),
 ) -> Result<(), Fail> {
-    let asked = [hex::decode(rt.alloc(), QUESTIONS.as_bytes())?];
-    let answers = hex::decode(rt.alloc(), PERMISSIONS.as_bytes())?;
     let (seen, bytes) = wanted;
     let course = Turns {
-        asked: asked.as_slice(),
+        asked: &[QUESTIONS],
         pace,
         turns,
         times,
         seen: Some(seen),
-        written: &answers.as_slice()[..bytes],
+        written: &[PERMISSIONS],
+        bytes,
     };
     runs_for_bob(rt, course)
 }
@@ -133,20 +160,14 @@ fn each_has_its_own(rt: HostRuntime) -> Result<(), Fail> {
         pauses: true,
         ..WHOLE
     };
-    let alloc = rt.alloc();
-    let asked = [
-        hex::decode(alloc, QUESTIONS.as_bytes())?,
-        hex::decode(alloc, LOGINS.as_bytes())?,
-    ];
-    let mut wanted = hex::decode(alloc, PERMISSIONS.as_bytes())?;
-    wanted.extend_from_slice(hex::decode(alloc, PASSES.as_bytes())?.as_slice())?;
     let course = Turns {
-        asked: asked.as_slice(),
+        asked: &[QUESTIONS, LOGINS],
         pace,
         turns: 1,
         times: 2000,
         seen: None,
-        written: wanted.as_slice(),
+        written: &[PERMISSIONS, PASSES],
+        bytes: 128,
     };
     runs_for_bob(&rt, course)
 }
