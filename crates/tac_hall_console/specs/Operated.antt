@@ -1,4 +1,4 @@
--- What was done at the console of a shared desk (docs/CONSOLE.md, "The console of `tacd serve`").
+-- What was done at the console of a hall (docs/CONSOLE.md, "The console of `tacd serve`").
 use Rattle.std.specs.Prelude.{◌≡◌, ◌<◌, ◌⊎◌, ℕ, List, [], ◌∷◌, ◌++◌, length, codes, true, false}
 use Rattle.std.specs.Prelude.{Option, Some, None, Result, Ok, Err, flat_map, filter_map, MatchBool}
 use Rattle.std.specs.Prelude.{if◌then◌else◌}

@@ -1,4 +1,4 @@
-//! The console of a shared desk, from its first line to the Stop.
+//! The console of a hall, from its first line to the Stop.
 
 ghost use Rattle.std.specs.Prelude.{◌≡◌};
 ghost use Rattle.tac_hall_console.specs.Operated.{IsOperated, AreHeard};
@@ -37,7 +37,7 @@ fn stop<H: Wait, J: Run, D: Desk, W: Write>(
     Ok(())
 }
 
-/// The console of a shared desk (docs/CONSOLE.md): answers each line before it waits for the next.
+/// The console of a hall (docs/CONSOLE.md): answers each line before it waits for the next.
 /// A line that is an edit or a question is one call of this seat, and its answer is printed.
 /// Between `begin` and `commit` edits are kept instead, without a call, and the `commit` is one
 /// call with all of them. A call that is refused is told as `refused N REFUSAL`; no batch is open

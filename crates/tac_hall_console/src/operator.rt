@@ -17,7 +17,7 @@ use std::mem;
 use std::sync::Wait;
 use tac_audit::{Typing, Witness};
 use tac_desk::Desk;
-use tac_hall::{Run, Hall};
+use tac_hall::{Hall, Run};
 use tac_io::read_piece;
 
 // How many bytes are read at once.

@@ -12,8 +12,8 @@ use Rattle.tac_hall.specs.declared.fault.HallFault.{HallFault}
 use Rattle.tac_hall.specs.Room.{Opening}
 use Rattle.tac_hall.specs.Seat.{Seated, CatchesUp}
 use Rattle.tac_journal.specs.Log.{Keeping}
-use Rattle.tac_worker.specs.declared.worked.End.{End}
-use Rattle.tac_worker.specs.AtDesk.{MakesOne, Refuses}
+use Rattle.tac_worker.specs.declared.end.End.{End}
+use Rattle.tac_worker.specs.AtHall.{MakesOne, Refuses}
 use Rattle.tac_worker.specs.Linked.{Linked, IsOver, IsOpen, StandsSo}
 use Rattle.tac_worker.specs.Told.{RefusesOne, refused_of}
 use Rattle.tac_worker.specs.Worked.{answers_of}

@@ -18,7 +18,7 @@ use Rattle.tac_hall_console.specs.declared.fault.OperatorFault.{OperatorFault}
 use Rattle.tac_hall_console.specs.Operated.{IsOperated}
 use Rattle.tac_journal.specs.Device.{HasLines}
 use Rattle.tac_journal.specs.Log.{Keeping}
-use Rattle.tac_worker.specs.declared.worked.End.{End}
+use Rattle.tac_worker.specs.declared.end.End.{End}
 use Rattle.tac_worker.specs.Told.{refused_of, TakesUntil}
 use Rattle.tac_worker.specs.Worked.{Exchange, answers_of, Traffic, IsServedBy}
 use Rattle.tac_net.specs.Connections.{TellsLog}

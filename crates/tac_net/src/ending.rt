@@ -8,7 +8,7 @@ use basics::send;
 use std::alloc::AllocError;
 use std::io::Write;
 use tac_desk::Desk;
-use tac_hall::{Run, Seat, Hall};
+use tac_hall::{Hall, Run, Seat};
 
 const REFUSED: &[u8] = b"close refused\n";
 

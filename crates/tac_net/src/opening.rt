@@ -20,8 +20,7 @@ use std::io::{self, Write};
 use std::net::Net;
 use std::sync::Wait;
 use tac_desk::Desk;
-use tac_hall::{Run, Hall};
-use tac_hall::HallFault;
+use tac_hall::{Hall, HallFault, Run};
 
 // The port, if there is one, as the worker has it that waits with this for calls there.
 fn port_of(poller: &Poller, port: &Option<Port>) -> io::Result<Option<Entrance<TcpListener>>> {

@@ -6,7 +6,7 @@ use crate::listeners::Listeners;
 use crate::settings::Settings;
 use crate::vigil::Vigil;
 use tac_desk::Desk;
-use tac_hall::{Run, Hall};
+use tac_hall::{Hall, Run};
 use tac_status::Counts;
 
 /// What the threads of a server share.

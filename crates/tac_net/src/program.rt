@@ -26,8 +26,7 @@ use std::sync::Wait;
 use std::thread::{Threads, join_mut, map_vec};
 use std::time::Clock;
 use tac_desk::Desk;
-use tac_hall::{EmptyHistory, Run, Seat, Hall};
-use tac_hall::HallFault;
+use tac_hall::{EmptyHistory, Hall, HallFault, Run, Seat};
 use tac_hall_console::{OperatorFault, Source};
 use tac_journal::{Log, LogFiles, Typists};
 

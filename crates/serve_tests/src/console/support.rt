@@ -1,4 +1,4 @@
-//! What the tests share: conversations at the console of a shared desk.
+//! What the tests share: conversations at the console of a hall.
 
 ghost use Rattle.std.specs.Prelude.{◌≡◌};
 
@@ -58,7 +58,7 @@ struct Course<'a> {
 // How a console ended, and why a call of another seat is refused after that.
 type Ended = (Result<(), OperatorFault>, Option<HallFault>);
 
-// A console of a shared desk, whose other seat makes a Stop after it, and before it too if it is to
+// A console of a hall, whose other seat makes a Stop after it, and before it too if it is to
 // be stopped. Its seat comes back beside that.
 fn operates_at<J: Run, D: Desk, V: Witness<Typing>, I: Read, O: Write, R: Wait + AllocGlobal>(
     rt: &R,
@@ -228,7 +228,7 @@ fn talks<R: Wait + AllocGlobal>(rt: &R, head: &str, talk: &str) -> Result<(), Fa
     Ok(())
 }
 
-/// Holds conversations, each at the console of a new shared desk at which bob may show things. A
+/// Holds conversations, each at the console of a new hall at which bob may show things. A
 /// paragraph is one. Its first line is
 ///
 ///     calls CALLS next CALLS room BYTES MANNER: LINE = END AFTER

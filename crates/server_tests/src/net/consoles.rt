@@ -1,6 +1,6 @@
 //! A server that has no seat for each worker.
 
-use crate::net::workers::{desk_of, key};
+use crate::net::support::{desk_of, key};
 use basics::Bytes;
 use std::alloc::{AllocError, Global};
 use std::net::{Ipv4Addr, Net, SocketAddr, TcpListener, TcpStream};

@@ -1,12 +1,12 @@
-//! What a worker gives back.
+//! How a connection ends.
 
 ghost use Rattle.std.specs.Prelude.{◌≡◌};
-ghost use Rattle.tac_worker.specs.Worked.{end_by, goes_on};
-ghost use Rattle.tac_worker.specs.declared.worked.End.TheVariants.{Memory, Unwitnessed};
+ghost use Rattle.tac_worker.specs.Worked.{end_by};
+ghost use Rattle.tac_worker.specs.declared.end.End.TheVariants.{Memory, Unwitnessed};
 
 use std::alloc::{AllocError, AllocFailed};
 use tac_audit::Refused;
-use tac_hall::{HallFault, Receipt, Seat};
+use tac_hall::HallFault;
 
 /// How the serving of a connection ended.
 #[derive(Clone, Copy, Debug, PartialEq, Eq)]
@@ -17,32 +17,16 @@ pub enum End {
     ByProtocol,
     /// There was a Stop before the next call.
     Stopped,
-    /// The hall's log was full before the next call.
+    /// The log was full before the next call.
     LogFull,
     /// Memory ran out.
     Memory,
     /// The reader failed.
     ReadFault,
-    /// The writer failed.
-    WriteFault,
     /// The witness refused what it was told; nothing of its reply was written.
     Unwitnessed,
-    /// The gate held the next call back.
-    Held,
-    /// The hall doesn't know the seat.
+    /// There was no seat for the next call.
     NoSeat,
-}
-
-impl End {
-    /// Whether who served the connection takes another one after it.
-    pub fn goes_on(self) -> bool
-        ensures { result ≡ goes_on self }
-    {
-        match self {
-            End::Stopped | End::Held | End::NoSeat => false,
-            _ => true,
-        }
-    }
 }
 
 impl From<AllocError> for End {
@@ -80,13 +64,4 @@ impl From<HallFault> for End {
             HallFault::NoSeat => End::NoSeat,
         }
     }
-}
-
-/// A connection that was served: the seat, the receipts of the calls that it made for it, in
-/// order, and how it ended.
-#[derive(Drop)]
-pub struct Worked {
-    pub seat: Seat,
-    pub receipts: Vec<Receipt>,
-    pub end: End,
 }
