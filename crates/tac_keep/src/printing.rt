@@ -32,7 +32,7 @@ impl Printer for Global {
         let Ok(report) = desk.query(&Query::Policy) else {
             return Err(AllocError);
         };
-        match &*report.first {
+        match report.get() {
             Report::Policy(policy) => policy.print(*self),
             _ => unreachable!(),
         }

@@ -8,7 +8,7 @@ use pol_meaning::Changes;
 use pol_text::Policy;
 use std::alloc::AllocError;
 use tac_conn::{Answer, Ask, Hash};
-use tac_desk::{Desk, Query, QueryFault, Report, State, Thrice};
+use tac_desk::{Desk, Query, QueryFault, Report, Shared, State};
 use tac_tally::{AtLimit, RecordLimit};
 
 /// Another desk, which is asked and edited as that one is. What it has, and how often it was
@@ -51,8 +51,8 @@ impl<'a, D: Desk> CountedDesk<'a, D> {
     fn see_policy(&mut self)
         ensures { D.meaning self.new.desk ≡ D.meaning self.old.desk }
     {
-        if let Ok(thrice) = self.desk.query(&Query::Policy) {
-            if let Report::Policy(policy) = &*thrice.first {
+        if let Ok(shared) = self.desk.query(&Query::Policy) {
+            if let Report::Policy(policy) = shared.get() {
                 self.counts.see(policy);
             }
         }
@@ -90,7 +90,7 @@ impl<D: Desk> Desk for CountedDesk<'_, D> {
         self.desk.hash(ask)
     }
 
-    fn edit(&mut self, edit: &Edit) -> Result<Thrice<Changes>, EditFault> {
+    fn edit(&mut self, edit: &Edit) -> Result<Shared<Changes>, EditFault> {
         let edited = self.desk.edit(edit);
         if edited.is_ok() {
             self.count_edits(1);
@@ -98,7 +98,7 @@ impl<D: Desk> Desk for CountedDesk<'_, D> {
         edited
     }
 
-    fn edit_all(&mut self, edits: &[Edit]) -> Result<Thrice<Changes>, BatchFault> {
+    fn edit_all(&mut self, edits: &[Edit]) -> Result<Shared<Changes>, BatchFault> {
         let edited = self.desk.edit_all(edits);
         if edited.is_ok() {
             self.count_edits(edits.len());
@@ -106,7 +106,7 @@ impl<D: Desk> Desk for CountedDesk<'_, D> {
         edited
     }
 
-    fn load(&mut self, policy: &Policy) -> Result<Thrice<Changes>, EditFault> {
+    fn load(&mut self, policy: &Policy) -> Result<Shared<Changes>, EditFault> {
         let loaded = self.desk.load(policy);
         if loaded.is_ok() {
             self.counts.reload();
@@ -115,7 +115,7 @@ impl<D: Desk> Desk for CountedDesk<'_, D> {
         loaded
     }
 
-    fn query(&mut self, query: &Query) -> Result<Thrice<Report>, QueryFault> {
+    fn query(&mut self, query: &Query) -> Result<Shared<Report>, QueryFault> {
         self.desk.query(query)
     }
 
