@@ -3,6 +3,7 @@ otherwise ends it, with its server and its folder gone."""
 
 import os
 import pathlib
+import re
 import shutil
 import signal
 import subprocess
@@ -53,6 +54,9 @@ FAULTS = (
     ("console console quit", "echo ok; exit 0", "tacd console console quit"),
     ("serve", "'{program}' \"$@\"; exit 3", "tacd console console quit"),
 )
+
+# A start at a port that somebody has.
+TAKEN = re.compile(r"    \$ tacd serve .* &\n    tacd: .*: Address already in use \(os error 98\)\n")
 
 
 def prints_this(program):
@@ -157,6 +161,8 @@ def ended_by(number):
 
 
 def fits(shown, came):
+    """It is shown so, but for ports that another case had just then."""
+    came = TAKEN.sub("", came)
     if not pages.fits(shown, came.split("\n")):
         wanted = "\n".join(shown)
         raise Wrong(f"it prints\n{came}\nand this was to come\n{wanted}")
