@@ -661,7 +661,7 @@ ANSWERED = {
     "fault line 3 5 BadPattern 3 Unclosed at 0": 1,
     "fault NoUser": 1,
     "fault TooManyStates group ops": 1,
-    "hall 1 LogFull": 1,
+    "refused 13 LogFull": 1,
     "unread policy: No such file or directory (os error 2)": 1,
     "busy ben": 1,
     "busy another": 1,

@@ -1,4 +1,4 @@
-//! Tests of the console of a shared desk: conversations with it, what its witness is told before a line
+//! Tests of the console of a hall: conversations with it, what its witness is told before a line
 //! is answered, and inputs and outputs that fail.
 
 mod ends;

@@ -153,7 +153,7 @@ error does too.
 A 'reload devices' is answered by 'devices ok' and how many; a file that is refused as by 'tacd
 devices', and one that can't be read by 'devices unread' and why. Then those before are served on.
 Without --devices it is 'no devices'.
-A line that the server doesn't take is answered by 'hall' and why.
+A line that the server doesn't take is answered by 'refused' and why.
 
 With --keep-edits PATH, an edit is on the disk before it is answered: PATH has the policy with all
 edits, as 'policy' prints it. Where the disk doesn't take it, 'not kept: ' and why comes before the
@@ -293,7 +293,7 @@ Examples:
 Exit status:
   0  each line was answered, and none was refused
   1  a line was refused: its answer began with 'refused' and a number or with 'refused at edit', or
-     with 'fault', 'hall', 'unread', 'devices fault', 'devices unread' or 'busy'
+     with 'fault', 'unread', 'devices fault', 'devices unread' or 'busy'
   2  the command line is wrong
   3  memory ran out
   4  no server listens at PATH, all of its places are taken, it ended the session, or reading or writing

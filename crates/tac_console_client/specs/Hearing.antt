@@ -24,7 +24,7 @@ is_numbered line = begins line (codes "refused ") && begins_with_digit (drop 8 l
 abbrev pub is_refusal : List ℕ → Bool
 is_refusal line =
     is_numbered line || begins line (codes "refused at edit ") || begins line (codes "fault ")
-    || begins line (codes "hall ") || begins line (codes "unread ")
+    || begins line (codes "unread ")
     || begins line (codes "devices fault ") || begins line (codes "devices unread ")
     || begins line (codes "busy ") || bytes_eq line (codes "busy" ++ 10 ∷ [])
 

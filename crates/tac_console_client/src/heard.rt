@@ -69,7 +69,6 @@ fn is_refusal(line: &[u8]) -> bool
     is_numbered(line)
         || line.starts_with(b"refused at edit ")
         || line.starts_with(b"fault ")
-        || line.starts_with(b"hall ")
         || line.starts_with(b"unread ")
         || line.starts_with(b"devices fault ")
         || line.starts_with(b"devices unread ")

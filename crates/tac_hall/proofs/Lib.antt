@@ -1,5 +1,8 @@
+pub mod CallFacts
 pub mod HistoryFacts
-pub mod SeatFacts
-pub mod PartFacts
+pub mod LogFacts
+pub mod SegmentFacts
+pub mod ViewFacts
+pub mod RoomFacts
 pub mod ClosingFacts
 pub mod Crossing

@@ -1,8 +1,9 @@
 pub mod FaultText
+pub mod Calls
+pub mod View
 pub mod History
-pub mod Segment
+pub mod Segments
 pub mod Room
 pub mod Seat
-pub mod Shedding
+pub mod Steps
 pub mod Closing
-pub mod Opening

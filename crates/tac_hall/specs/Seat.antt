@@ -1,108 +1,107 @@
--- A seat of a hall, and what a call changes of it.
-use Rattle.std.specs.Prelude.{◌≡◌, ◌<◌, ◌≤◌, ℕ, suc, List, [], ◌∷◌, ◌++◌, length}
-use Rattle.std.specs.Prelude.{Result, Ok, Err}
+-- A seat of a hall, and what a call adds to the history that it has seen.
+use Rattle.std.specs.Prelude.{◌≡◌, ◌<◌, ℕ, List, [], ◌∷◌, ◌++◌, length, false}
+use Rattle.std.specs.Prelude.{Option, Some, None}
+use Rattle.tac_desk.specs.Meaning.{Meaning}
 use Rattle.tac_hall.specs.declared.call.Call.{Call}
-use Rattle.tac_hall.specs.declared.entry.Made.{Made}
-use Rattle.tac_hall.specs.declared.entry.Receipt.{Receipt}
+use Rattle.tac_hall.specs.declared.receipt.Receipt.{Receipt}
 use Rattle.tac_hall.specs.declared.fault.HallFault.{HallFault}
-use Rattle.tac_hall.specs.declared.fault.HallFault.TheVariants.{LogFull, Memory, Closed, NoSeat}
-use Rattle.tac_hall.specs.History.{IsOfKind}
-use Rattle.tac_hall.specs.Room.{Contents, IsLawful, Sits, IsCalled, Calls}
+use Rattle.tac_hall.specs.Calls.{Answers, IsOfKind, is_closed, Legal}
+use Rattle.tac_hall.specs.History.{last_segment}
+use Rattle.tac_hall.specs.View.{made_of, AreBelow}
+use Rattle.tac_hall.specs.Segments.{Stretch}
+use Rattle.tac_roll.specs.Roll.{RollId, Membership, AreOthers}
+use Rattle.tac_hall.specs.declared.event.Event.{Event}
+use Rattle.tac_hall.specs.declared.event.Event.TheVariants as events
+use Rattle.tac_hall.specs.declared.limits.Rotated.{Rotated}
+use Rattle.tac_hall.specs.History.{calls_in, place_of, before_call, view_of, rotations_of}
+use Rattle.tac_hall.specs.Room.{Opening, IsLawful, RefusesCall, RefusesRotation}
+use Rattle.tac_hall.specs.Segments.{IsPresent}
 
--- its number, the calls that it made and hasn't shed, in order, and the first place that is above
--- those of all calls that it made: in the log of the segment of this number, the next one
-pub record Sitting : Type 0 where
+-- its number, and the history up to the last thing that it did
+pub record Seated : Type 0 where
   pub number : ℕ
-  pub segment : ℕ
-  pub next : ℕ
-  pub view : List Made
+  pub seen : List (ℕ × Event)
 
--- ---- places: a call stands in a segment, at a place in its log
+-- it did nothing: all that it has seen is of others
+abbrev pub IsFresh : Seated → Type 0
+IsFresh seat = AreOthers seat.number seat.seen
 
--- the call is of an earlier segment than this one, or of this one and below this place
-abbrev pub IsBelow : ℕ → ℕ → Made → Type 0
-IsBelow segment place made =
-    (made.segment ≤ segment) × (made.segment ≡ segment → made.place < place)
+-- it is what a member of the history knows
+abbrev pub seated_as : Option (Membership Event) → Seated
+seated_as (Some member) = record { number = member.number; seen = member.seen }
+seated_as None = record { number = 0; seen = [] }
 
-abbrev pub AreBelow : ℕ → ℕ → List Made → Type 0
-AreBelow segment place [] = Unit {0}
-AreBelow segment place (made ∷ view) = IsBelow segment place made × AreBelow segment place view
-
--- the calls are of this segment or of later ones
-abbrev pub AreFrom : ℕ → List Made → Type 0
-AreFrom segment [] = Unit {0}
-AreFrom segment (made ∷ view) = (segment ≤ made.segment) × AreFrom segment view
-
--- no call is of an earlier segment than one before it
-abbrev pub Rises : List Made → Type 0
-Rises [] = Unit {0}
-Rises (made ∷ view) = AreFrom made.segment view × Rises view
-
--- the next place of the one segment isn't further than this place of the present segment
-abbrev pub IsReached : ℕ → ℕ → ℕ → ℕ → Type 0
-IsReached segment next present place = (segment ≤ present) × (segment ≡ present → next ≤ place)
+-- it has one, of this history
+abbrev pub IsSeatOf : RollId → ℕ → Option (Membership Event) → Type 0
+IsSeatOf roll number (Some member) = (member.roll ≡ roll) × (number ≡ member.number)
+IsSeatOf roll number None = ⊥
 
 -- ---- a call
 
-abbrev pub made_of : Call → Receipt → Made
-made_of call receipt = record {
-  segment = receipt.segment;
-  place = receipt.place;
-  call = call;
-  answer = receipt.answer;
-}
-
--- a call was made, and nothing else: it stands after all that the seat made
--- before, also in the log, and also after what the seat has shed
-pub record IsMade (was : Sitting) (call : Call) (receipt : Receipt) (now : Sitting) : Type 0 where
-  pub seat : receipt.seat ≡ was.number
-  pub above : AreBelow receipt.segment receipt.place was.view
-  pub reached : IsReached was.segment was.next receipt.segment receipt.place
-  pub segment : now.segment ≡ receipt.segment
-  pub next : now.next ≡ suc receipt.place
-  pub kind : IsOfKind call receipt.answer
-  pub view : now.view ≡ was.view ++ made_of call receipt ∷ []
+-- others did these things, and then this seat made this call, and nothing else: before it the next
+-- segment began by itself where that was due. The answer is right after all calls before it, and
+-- the call stands after all that the seat made before
+pub record IsMade (opening : Opening) (was : Seated) (call : Call)
+    (receipt : Receipt) (now : Seated) : Type 0 where
+  pub others : List (ℕ × Event)
+  pub apart : AreOthers was.number others
+  pub before : List (ℕ × Event)
+  pub all : before ≡ before_call opening.limits was.number (was.seen ++ others)
+  pub seen : now.seen ≡ before ++ (was.number, events.Called call receipt.answer) ∷ []
   pub number : now.number ≡ was.number
+  pub seat : receipt.seat ≡ was.number
+  pub place : place_of before ≡ record { segment = receipt.segment; entries = receipt.place }
+  pub room : receipt.place < opening.limits.calls
+  pub above : AreBelow receipt.segment receipt.place (view_of was.number was.seen)
+  pub kind : IsOfKind call receipt.answer
+  pub goes_on : is_closed (calls_in before) ≡ false
+  pub meaning : Meaning
+  pub then : Meaning
+  pub legal : Legal opening.meaning (calls_in before) meaning
+  pub answers : Answers meaning call receipt.answer then
+  pub view : view_of was.number now.seen
+      ≡ view_of was.number was.seen ++ made_of call receipt ∷ []
+  pub rotations : rotations_of was.number now.seen ≡ rotations_of was.number was.seen
 
--- ---- a new seat, beside the room
+-- others did these things meanwhile, and the seat has seen them; it did nothing itself
+pub record CatchesUp (was now : Seated) : Type 0 where
+  pub others : List (ℕ × Event)
+  pub apart : AreOthers was.number others
+  pub number : now.number ≡ was.number
+  pub seen : now.seen ≡ was.seen ++ others
+  pub view : view_of was.number now.seen ≡ view_of was.number was.seen
+  pub rotations : rotations_of was.number now.seen ≡ rotations_of was.number was.seen
 
--- it has the number that the room gives next, or there are as many as there may be
-abbrev pub SitsBy : Contents → Result Sitting HallFault → Contents → Type 0
-SitsBy was (Ok seat) now = Sits was (Ok seat.number) now
-SitsBy was (Err fault) now = Sits was (Err fault) now
+-- after what the seat has seen, which is a lawful history, this call is refused so
+pub record IsRefused (opening : Opening) (seat : Seated) (call : Call) (fault : HallFault) : Type 0
+  where
+    pub meaning : Meaning
+    pub lawful : IsLawful opening seat.seen meaning
+    pub refuses : RefusesCall opening.limits seat.seen call fault
 
--- ---- the same call, beside the room
+-- ---- a rotation
 
--- the room has given the seat its number, and the last of its places: each place of an earlier
--- segment counts as given
-abbrev pub IsKnown : Contents → ℕ → ℕ → ℕ → Type 0
-IsKnown room number segment next =
-    (number < room.seats) × IsReached segment next room.number (length room.log)
+-- others did these things, and then this seat ended the segment that is told, and nothing else: it
+-- is the present one of all that happened before, with its number, its base, its calls and its end
+pub record IsRotated (opening : Opening) (was : Seated) (rotated : Rotated) (now : Seated) : Type 0
+  where
+    pub others : List (ℕ × Event)
+    pub apart : AreOthers was.number others
+    pub seen : now.seen ≡ (was.seen ++ others) ++ (was.number, events.Rotated) ∷ []
+    pub number : now.number ≡ was.number
+    pub goes_on : is_closed (calls_in (was.seen ++ others)) ≡ false
+    pub place : place_of (was.seen ++ others)
+        ≡ record { segment = rotated.number; entries = rotated.entries }
+    pub segment : Stretch
+    pub present : IsPresent opening.meaning (was.seen ++ others) segment
+    pub told : rotated ≡ record { number = segment.number; entries = length segment.log }
+    pub numbered : rotated.number < last_segment
+    pub view : view_of was.number now.seen ≡ view_of was.number was.seen
+    pub rotations : rotations_of was.number now.seen
+        ≡ rotations_of was.number was.seen ++ rotated ∷ []
 
--- a seat that the room doesn't know is refused before all else, else a call is made
--- there as a step does
-abbrev pub CallsBy : Contents → Sitting → Call → Result Receipt HallFault → Contents → Type 0
-CallsBy was seat call (Ok receipt) now =
-    IsKnown was seat.number seat.segment seat.next
-    × IsCalled was seat.number call
-    (record {
-      segment = receipt.segment;
-      place = receipt.place;
-      kept = receipt.answer;
-      given = receipt.answer;
-    }) now
-CallsBy was seat call (Err NoSeat) now =
-    (IsKnown was seat.number seat.segment seat.next → ⊥) × (now ≡ was)
-CallsBy was seat call (Err LogFull) now =
-    IsKnown was seat.number seat.segment seat.next × Calls was seat.number call (Err LogFull) now
-CallsBy was seat call (Err Memory) now =
-    IsKnown was seat.number seat.segment seat.next × Calls was seat.number call (Err Memory) now
-CallsBy was seat call (Err Closed) now =
-    IsKnown was seat.number seat.segment seat.next × Calls was seat.number call (Err Closed) now
-
--- the refusal was given: some lawful room refuses this call of the seat so
-pub record IsRefused (seat : Sitting) (call : Call) (fault : HallFault) : Type 0 where
-  pub was : Contents
-  pub then : Contents
-  pub lawful : IsLawful was
-  pub refuses : CallsBy was seat call (Err fault) then
+-- after what the seat has seen, which is a lawful history, a rotation is refused so
+pub record IsUnrotated (opening : Opening) (seat : Seated) (fault : HallFault) : Type 0 where
+  pub meaning : Meaning
+  pub lawful : IsLawful opening seat.seen meaning
+  pub refuses : RefusesRotation seat.seen fault

@@ -1,16 +1,16 @@
 //! What is called at a hall, and what it is answered.
 
-ghost use Rattle.std.specs.Prelude.{◌≡◌, ◌↔◌, IsTrue};
+ghost use Rattle.std.specs.Prelude.{◌≡◌};
 
 use crate::shared::Shared;
-use basics::{Sequence, StructuralEq};
+use basics::Sequence;
 use pol_edit::{BatchFault, Edit, EditFault};
 use pol_meaning::Changes;
 use pol_text::Policy;
 use tac_conn::{Answer, Ask};
 use tac_desk::{Query, QueryFault, Report};
 
-/// What a seat may call at its hall. Each call is answered and logged before the next is taken.
+/// What a seat may call at its hall. Each call is answered before the next is taken.
 pub enum Call {
     /// What a connection asks the desk.
     Ask(Ask),
@@ -41,29 +41,14 @@ impl Drop for Call {
 }
 
 impl Call {
-    ghost use Rattle.std.specs.Prelude.{◌≡◌, ◌↔◌, IsTrue};
-    ghost use Rattle.tac_hall.specs.History.{is_stop};
+    ghost use Rattle.std.specs.Prelude.{◌≡◌};
+    ghost use Rattle.tac_hall.specs.Calls.{is_stop};
 
     /// Whether no further call is taken.
     pub fn is_stop(&self) -> bool
         ensures { result ≡ is_stop self.now }
     {
         matches!(self, Call::Stop)
-    }
-
-    /// Whether the two are the same. Linear in what they hold.
-    pub fn same(&self, other: &Call) -> bool
-        ensures { IsTrue result ↔ (self.now ≡ other.now) }
-    {
-        match (self, other) {
-            (Call::Ask(one), Call::Ask(two)) => one.same(two),
-            (Call::Edit(one), Call::Edit(two)) => one.same(two),
-            (Call::Batch(one), Call::Batch(two)) => one.same(two),
-            (Call::Load(one), Call::Load(two)) => one.same(two),
-            (Call::Query(one), Call::Query(two)) => one.same(two),
-            (Call::Stop, Call::Stop) => true,
-            _ => false,
-        }
     }
 }
 
@@ -94,8 +79,8 @@ impl Drop for CallAnswer {
 }
 
 impl CallAnswer {
-    ghost use Rattle.std.specs.Prelude.{◌≡◌, ◌↔◌, IsTrue};
-    ghost use Rattle.tac_hall.specs.History.{asked_answer};
+    ghost use Rattle.std.specs.Prelude.{◌≡◌};
+    ghost use Rattle.tac_hall.specs.Calls.{asked_answer};
 
     /// The desk's answer, if an ask was called.
     pub fn into_asked(self) -> Option<Answer>
@@ -104,23 +89,6 @@ impl CallAnswer {
         match self {
             CallAnswer::Ask(answer) => Some(answer),
             _ => None,
-        }
-    }
-
-    /// Whether the two are the same. Linear in what they hold.
-    pub fn same(&self, other: &CallAnswer) -> bool
-        ensures { IsTrue result ↔ (self.now ≡ other.now) }
-    {
-        match (self, other) {
-            (CallAnswer::Ask(one), CallAnswer::Ask(two)) => one.same(two),
-            (CallAnswer::Edit(Ok(one)), CallAnswer::Edit(Ok(two))) => one.get().same(two.get()),
-            (CallAnswer::Edit(Err(one)), CallAnswer::Edit(Err(two))) => one == two,
-            (CallAnswer::Batch(Ok(one)), CallAnswer::Batch(Ok(two))) => one.get().same(two.get()),
-            (CallAnswer::Batch(Err(one)), CallAnswer::Batch(Err(two))) => one == two,
-            (CallAnswer::Query(Ok(one)), CallAnswer::Query(Ok(two))) => one.get().same(two.get()),
-            (CallAnswer::Query(Err(one)), CallAnswer::Query(Err(two))) => one == two,
-            (CallAnswer::Stopped, CallAnswer::Stopped) => true,
-            _ => false,
         }
     }
 }

@@ -8,17 +8,17 @@ use std::alloc::{AllocError, AllocFailed};
 use std::error::Error;
 use std::fmt;
 
-/// Why a hall takes no call, has no seat, or isn't rotated. Of a call NoSeat is judged first, then
-/// Closed, then LogFull, then Memory; of a rotation by the hall the same, without NoSeat.
+/// Why a hall takes no call, has no seat, or isn't rotated. Closed is judged first, then LogFull,
+/// then Memory. Their numbers follow those of the refusals of edits, of which Memory is one.
 #[derive(Clone, Copy, Debug, PartialEq, Eq)]
 pub enum HallFault {
     /// The log has as many calls as it may have; or, of a rotation, no number is left.
     LogFull,
-    /// Memory ran out.
+    /// Memory ran out for the answer to an ask.
     Memory,
     /// There was a Stop.
     Closed,
-    /// All seats were made; or the seat that calls is not one of this hall's.
+    /// All seats were made.
     NoSeat,
 }
 
@@ -27,10 +27,10 @@ impl fmt::Display for HallFault {
 
     fn fmt<W: fmt::Write>(&self, f: &mut fmt::Formatter<W>) -> fmt::Result {
         match self {
-            HallFault::LogFull => write!(f, "1 LogFull"),
-            HallFault::Memory => write!(f, "2 Memory"),
-            HallFault::Closed => write!(f, "3 Closed"),
-            HallFault::NoSeat => write!(f, "4 NoSeat"),
+            HallFault::LogFull => write!(f, "13 LogFull"),
+            HallFault::Memory => write!(f, "12 Memory"),
+            HallFault::Closed => write!(f, "14 Closed"),
+            HallFault::NoSeat => write!(f, "15 NoSeat"),
         }
     }
 }

@@ -1,185 +1,181 @@
-//! A desk that many threads ask.
+//! The hall.
 
-ghost use Rattle.std.specs.Prelude.{◌≡◌, ◌≤◌, [], true, length, IfOk, IfErr, OnErr};
-ghost use Rattle.tac_hall.specs.Closing.{AreViews, are_theirs, are_there};
-ghost use Rattle.tac_hall.specs.History.{Legal};
-ghost use Rattle.tac_hall.specs.Room.{Contents, IsLawful, Rotates};
-ghost use Rattle.tac_hall.specs.Seat as sitting;
+ghost use Rattle.std.specs.Prelude.{◌≡◌, All, IfOk, IfErr, OnErr};
+ghost use Rattle.tac_hall.specs.Closing.{HasAll, IsSettledAt};
+ghost use Rattle.tac_hall.specs.Room.{Standing, IsLawful};
+ghost use Rattle.tac_hall.specs.Seat as seats;
+ghost use Rattle.tac_hall.specs.Steps as steps;
 ghost use Rattle.tac_hall.specs.declared.fault.HallFault.TheVariants.{NoSeat};
+ghost use Rattle.tac_roll.specs.Roll.{Knows};
 
 use crate::call::Call;
 use crate::closing::Settled;
-use crate::entry::Receipt;
+use crate::event::{EmptyHistory, Event};
 use crate::fault::HallFault;
-use crate::laws::Room;
-use crate::seat::{Seat, rotate_in, sit_in};
-use crate::segment::Segment;
-use crate::shared::Shared;
+use crate::limits::{Limits, Rotated};
+use crate::receipt::Receipt;
+use crate::room::Room;
+use crate::run::Run;
+use crate::seat::Seat;
 use brief_lock::take;
-use std::alloc::{AllocError, Global};
-use std::marker::Model;
 use std::sync::{Mutex, Wait};
-use tac_desk::{Desk, State};
+use tac_conn::{Ask, Hash, Proof};
+use tac_desk::Desk;
+use tac_roll::Roll;
 
-/// A desk that many threads ask, one call after another, with the log of all calls since it was
-/// rotated. A contract sees what the desk represented at first, and how many calls the log takes.
+/// One desk that many threads call, one call after another, with the history of all calls. That
+/// exists in proofs alone: however many calls are made, the memory stays that of the desk.
 ///
-/// Each call takes the one lock, does one step there ([`Room::step`]), and lets the lock go. What
-/// a call may wait for is that lock alone.
-pub struct Hall<D: Desk> {
-    alloc: Global,
-    opening: Shared<State>,
-    limit: usize,
-    room: Mutex<Room<D>>,
+/// Each call takes the one lock, is answered there, and lets the lock go. What a call may wait for
+/// is that lock alone.
+pub struct Hall<J: Run, D: Desk> {
+    roll: Roll<Event>,
+    room: Mutex<Room<J, D>>,
+    ghost named: { roll ≡ J.roll },
 }
 
 // By hand, so that a proof of an owner has one call at each exit, not a drop of each field.
-impl<D: Desk> Drop for Hall<D> {
+impl<J: Run, D: Desk> Drop for Hall<J, D> {
     fn drop(self) {
-        let Hall {
-            alloc: _,
-            opening: _,
-            limit: _,
-            room: _,
-        } = self;
+        let Hall { roll: _, room: _ } = self;
     }
 }
 
-impl<D: Desk> Model for Hall<D> {
-    ghost use Rattle.tac_hall.specs.Opening.{Opening};
-
-    ghost Value = { Opening };
-
-    ghost view = { λ hall. record { meaning = hall.opening; limit = hall.limit } };
-}
-
-impl<D: Desk> Hall<D> {
-    /// A hall round this desk, without seats, whose log takes so many calls. The error means that
-    /// memory ran out for a copy of what the desk represents. Linear in the policy and the records.
-    pub fn new<R: AllocGlobal>(rt: &R, desk: D, log_limit: usize) -> Result<Hall<D>, AllocError>
-        ensures { IfOk result (λ hall.
-            hall ≡ record { meaning = D.meaning desk; limit = log_limit }) }
+impl<J: Run, D: Desk> Hall<J, D> {
+    /// A hall without seats, of the run that has this history, this desk and these limits.
+    pub fn new(history: EmptyHistory, desk: D, limits: Limits) -> Hall<J, D>
+        requires roll { history ≡ J.roll }
+        requires opening { record { meaning = D.meaning desk; limits = limits } ≡ J.opening }
     {
-        let alloc = rt.alloc();
-        let state = desk.state()?;
-        let base = Shared::new(alloc, state)?;
-        let opening = base.again()?;
-        let room = Room::new(alloc, desk, base, log_limit);
-        Ok(Hall {
-            alloc,
-            opening,
-            limit: log_limit,
-            room: Mutex::new(room),
-        })
+        let EmptyHistory { roll, keeper } = history;
+        Hall {
+            roll,
+            room: Mutex::new(Room::new(keeper, desk, limits)),
+        }
     }
 
-    /// What the desk represented when the hall was made.
-    pub fn opening(&self) -> &State
-        ensures { result.now ≡ self.now.meaning }
-    {
-        self.opening.get()
-    }
-
-    /// How many calls the log takes.
-    pub fn log_limit(&self) -> usize
-        ensures { result ≡ self.now.limit }
-    {
-        self.limit
-    }
-
-    /// A new seat, which made no call, under the next number. The only refusal is NoSeat, after 64
+    /// A new seat, which did nothing, under the next number. The only refusal is NoSeat, after 64
     /// of them; a seat may be asked for after a Stop too. Takes constant time once it has the lock,
     /// and no memory.
-    pub fn seat<R: Wait>(&self, rt: &R) -> Result<Seat, HallFault>
-        ensures fresh { IfOk result (λ seat.
-            (seat.segment ≡ 0) × (seat.next ≡ 0) × (seat.view ≡ [])) }
+    pub fn seat<R: Wait>(&self, rt: &R) -> Result<Seat<J>, HallFault>
+        ensures fresh { IfOk result seats.IsFresh }
         ensures fault { IfErr result (λ fault. fault ≡ NoSeat) }
 
-        // One step of some room has this result; `close` tells it was this one, of seats it takes.
-        ensures room { (was : Contents) × (then : Contents) × IsLawful was
-            × sitting.SitsBy was result then }
+        // One step of what lies under the lock has this result.
+        ensures room { (was : Standing) × (then : Standing)
+            × IsLawful J.opening was.history was.meaning × steps.Sits was result then }
     {
-        let number = sit_in(&mut self.room.lock(rt))?;
-        Ok(Seat::new(self.alloc, number))
+        take(rt, &self.room).seat(&self.roll)
     }
 
-    /// Makes a call. It stands in the log after all that the seat made before, and in the seat's
-    /// view; the receipt says where, and has the answer. A refused call is made nowhere. Takes
-    /// amortised constant time, but for what the desk takes to answer.
-    pub fn call<R: Wait>(&self, rt: &R, seat: &mut Seat, call: Call) -> Result<Receipt, HallFault>
-        ensures made { IfOk result (λ receipt. sitting.IsMade seat.old call receipt seat.new) }
-        ensures err { OnErr result (seat.new ≡ seat.old) }
-        ensures refused { IfErr result (sitting.IsRefused seat.old call) }
-
-        // One step of some room has this result; `close` tells it was this one, of seats it takes.
-        ensures room { (was : Contents) × (then : Contents) × IsLawful was
-            × sitting.CallsBy was seat.old call result then }
-    {
-        seat.call_in(rt, &self.room, call)
-    }
-
-    /// Takes the whole log out, and the next segment begins, with an empty log. Refused as Closed
-    /// after a Stop, then as LogFull where the present segment has the greatest number (a full log
-    /// is no reason), then as Memory; nothing has changed then. It is no call, and stands in no
-    /// log. Copies what the desk represents, and all calls wait meanwhile: linear in the policy and
-    /// the records, however long the log is.
-    pub fn rotate_log<R: Wait>(&self, rt: &R) -> Result<Segment, HallFault>
-        // One step of some room has this result; `close` tells it was this one, of seats it takes.
-        ensures { (was : Contents) × (then : Contents) × IsLawful was × Rotates was result then }
-    {
-        rotate_in(&mut take(rt, &self.room))
-    }
-
-    /// The same, for whoever has a seat, of any hall; the seat stays as it is. Costs as much as
-    /// [`Hall::rotate_log`].
-    pub fn rotate<R: Wait>(&self, rt: &R, seat: &mut Seat) -> Result<Segment, HallFault>
-        ensures seat { seat.new ≡ seat.old }
-        ensures room { (was : Contents) × (then : Contents) × IsLawful was
-            × Rotates was result then }
-    {
-        self.rotate_log(rt)
-    }
-
-    /// Ends the hall, and shows what it kept: the number of the last segment; what the desk
-    /// represented at its beginning, which in the first is what it represented when the hall was
-    /// made; and the log, a legal history from there to what the desk represents now, no longer
-    /// than it may be, which has of each seat exactly the seat's view, and nothing else. So each
-    /// seat has to have shed all earlier segments. The seats have the numbers below their count,
-    /// each one of them.
-    ///
-    /// Refused where one of the hall's seats is missing, or one is handed in that isn't the hall's
-    /// or has calls of an earlier segment; then the hall and the seats come back. Linear in the
-    /// log, for each seat; in the first segment in the policy and the records too.
-    pub fn close(self, seats: Vec<Seat>) -> Result<Settled<D>, (Hall<D>, Vec<Seat>)>
-        ensures base { IfOk result (λ settled.
-            settled.number ≡ 0 → settled.base ≡ self.meaning) }
-        ensures legal { IfOk result (λ settled.
-            Legal settled.base settled.log.items (D.meaning settled.desk)) }
-        ensures within { IfOk result (λ settled. length settled.log.items ≤ self.limit) }
-        ensures views { IfOk result (λ settled.
-            AreViews settled.number settled.log.items seats.items) }
-        ensures theirs { IfOk result (λ settled.
-            are_theirs settled.log.items seats.items ≡ true) }
-        ensures there { IfOk result (λ _.
-            are_there (length seats.items) seats.items ≡ true) }
-        ensures back { IfErr result (λ back. (back.0 ≡ self) × (back.1 ≡ seats)) }
-    {
-        let Hall {
-            alloc,
-            opening,
-            limit,
-            room,
-        } = self;
-        let room = room.into_inner();
-        if room.settles(opening.get(), limit, seats.as_slice()) {
-            return Ok(room.settled());
+    /// The hash that the password of this ask is compared with by the policy of this moment, if it
+    /// is one: what the password may be worked out under before the call. It is no call, and stands
+    /// in no history; the policy may be another one when the call is made. So no contract says
+    /// which policy it was, and nothing may rest on the answer but the time that a call takes.
+    /// Takes the lock for a look-up, and only where a password is asked about; and no memory.
+    pub fn hash<R: Wait>(&self, rt: &R, ask: &Ask) -> Option<Hash> {
+        match ask {
+            Ask::Authenticate {
+                proof: Proof::Plain(_),
+                ..
+            } => take(rt, &self.room).hash(ask),
+            _ => None,
         }
-        let hall = Hall {
-            alloc,
-            opening,
-            limit,
-            room: Mutex::new(room),
-        };
-        Err((hall, seats))
+    }
+
+    /// Makes a call. Its answer is right after all calls before it, of this seat and of others; the
+    /// receipt says where it stands, and has the answer. Where the present segment has one call
+    /// less than `rotate_at`, or more, the next begins before, while numbers are left. Takes the
+    /// time that the desk takes to answer, and no memory but the desk's.
+    ///
+    /// Refused as Closed after a Stop, then as LogFull, then as Memory, where the desk has none for
+    /// the answer to an ask. Then nothing was done; the seat has seen what others did until then.
+    pub fn call<R: Wait>(
+        &self,
+        rt: &R,
+        seat: &mut Seat<J>,
+        call: &Call,
+    ) -> Result<Receipt, HallFault>
+        ensures made { IfOk result (λ receipt.
+            seats.IsMade J.opening seat.old call.now receipt seat.new) }
+        ensures err { OnErr result (seats.CatchesUp seat.old seat.new) }
+        ensures refused { IfErr result (seats.IsRefused J.opening seat.new call.now) }
+
+        // One step of what lies under the lock has this result, and the seat has seen all of it.
+        ensures room { (was : Standing) × (then : Standing)
+            × IsLawful J.opening was.history was.meaning
+            × steps.Calls J.opening was seat.old.number call.now result then
+            × (seat.new ≡ record seat.old { seen = then.history }) }
+    {
+        take(rt, &self.room).call(&self.roll, seat, call)
+    }
+
+    /// Ends the present segment, and the next begins: it is told which it was, and how many calls
+    /// it has. It is no call, and stands in no log. Takes constant time, and no memory.
+    ///
+    /// Refused as Closed after a Stop, then as LogFull where the present segment has the greatest
+    /// number. Then nothing was done; the seat has seen what others did until then.
+    pub fn rotate<R: Wait>(&self, rt: &R, seat: &mut Seat<J>) -> Result<Rotated, HallFault>
+        ensures rotated { IfOk result (λ rotated.
+            seats.IsRotated J.opening seat.old rotated seat.new) }
+        ensures err { OnErr result (seats.CatchesUp seat.old seat.new) }
+        ensures refused { IfErr result (seats.IsUnrotated J.opening seat.new) }
+
+        // One step of what lies under the lock has this result, and the seat has seen all of it.
+        ensures room { (was : Standing) × (then : Standing)
+            × IsLawful J.opening was.history was.meaning
+            × steps.Rotates J.opening was seat.old.number result then
+            × (seat.new ≡ record seat.old { seen = then.history }) }
+    {
+        take(rt, &self.room).rotate(&self.roll, seat)
+    }
+
+    /// Ends it, with all its seats. What they did is one legal history, from what the desk
+    /// represented at first to what the desk that comes back represents: of each seat exactly what
+    /// it did, each call at its place, and nothing else. Its last segment is told, with the count
+    /// of its calls.
+    ///
+    /// Refused where one of the seats is missing; then all comes back. Quadratic in the seats.
+    pub fn close(self, seats: Vec<Seat<J>>) -> Result<Settled<D>, (Hall<J, D>, Vec<Seat<J>>)>
+        ensures settled { IfOk result (λ settled.
+            IsSettledAt J.opening settled.last (D.meaning settled.desk) seats.items) }
+        ensures back { IfErr result (λ back. back.1 ≡ seats) }
+    {
+        let Hall { roll, room } = self;
+        let mut room = room.into_inner();
+        if !room.has_all(seats.as_slice()) {
+            let hall = Hall {
+                roll,
+                room: Mutex::new(room),
+            };
+            return Err((hall, seats));
+        }
+        Ok(settle(&roll, room, seats))
+    }
+}
+
+// What comes back, once each seat was compared with the history. All seats are there.
+fn settle<J: Run, D: Desk>(
+    roll: &Roll<Event>,
+    mut room: Room<J, D>,
+    seats: Vec<Seat<J>>,
+) -> Settled<D>
+    requires roll { roll.now ≡ J.roll }
+    requires there { HasAll room.seats seats.items }
+    ensures { IsSettledAt J.opening result.last (D.meaning result.desk) seats.items }
+{
+    room.look(roll);
+    compare_all(roll, &mut room, seats);
+    room.settled()
+}
+
+// Each seat has seen a beginning of the history, and did nothing after that.
+fn compare_all<J: Run, D: Desk>(roll: &Roll<Event>, room: &mut Room<J, D>, seats: Vec<Seat<J>>)
+    requires { roll.now ≡ J.roll }
+    ensures same { room.new ≡ room.old }
+    ensures know { All (λ seat. Knows room.old.history seat.number seat.seen) seats.items }
+{
+    'seats: for seat in seats {
+        room.compare(roll, seat);
     }
 }

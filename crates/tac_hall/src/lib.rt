@@ -1,23 +1,30 @@
-//! The hall: one desk that many threads ask, and the history of all that they asked.
+//! The hall: one desk that many threads call, and the history of all that they called, which takes
+//! no memory.
 #![tactic(auto)]
 
 mod answering;
 mod call;
 mod closing;
-mod entry;
+mod event;
 mod fault;
 mod hall;
-pub mod laws;
-mod part;
+mod laws;
+mod limits;
+mod receipt;
+mod room;
+mod run;
 mod seat;
-mod segment;
 mod shared;
 
 pub use call::{Call, CallAnswer};
-pub use closing::{Settled, are_theirs};
-pub use entry::{Entry, Made, Receipt};
+pub use closing::Settled;
+pub use event::{EmptyHistory, Event};
 pub use fault::HallFault;
 pub use hall::Hall;
+pub use laws::logs_laws;
+pub use limits::{Limits, Rotated};
+pub use receipt::Receipt;
+pub use room::{MAX_SEATS, Room};
+pub use run::Run;
 pub use seat::Seat;
-pub use segment::{Parts, Segment, joins};
 pub use shared::Shared;

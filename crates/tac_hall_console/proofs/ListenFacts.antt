@@ -4,7 +4,7 @@ use Rattle.std.specs.Io.KnownBytes.{Consumes, IsAtEnd, Keeps}
 use Rattle.std.proofs.KnownBytes.{Consumes-nil, Consumes-trans, Consumes-kept}
 use Rattle.basics.specs.Lines.{lines_of}
 use Rattle.tac_audit.specs.declared.notice.Typing.{Typing}
-use Rattle.tac_forum.specs.History.{Opening}
+use Rattle.tac_hall.specs.Room.{Opening}
 use Rattle.tac_hall_console.specs.declared.fault.OperatorFault.{OperatorFault}
 use Rattle.tac_hall_console.specs.declared.fault.OperatorFault.TheVariants as faults
 use Rattle.tac_hall_console.specs.declared.operator.Went.TheVariants.{On, Quits}

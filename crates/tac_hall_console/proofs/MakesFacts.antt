@@ -9,13 +9,14 @@ use Rattle.tac_console.specs.Batching.{action_of}
 use Rattle.tac_console.specs.ConsoleText.{asked_by}
 use Rattle.tac_console.specs.declared.batching.Action.{Action}
 use Rattle.tac_console.specs.declared.batching.Action.TheVariants as actions
-use Rattle.tac_forum.specs.History.{Opening, view_of}
-use Rattle.tac_forum.specs.History as history
-use Rattle.tac_forum.specs.Seat.{Seated, CatchesUp}
-use Rattle.tac_forum.specs.declared.limits.Rotated.{Rotated}
+use Rattle.tac_hall.specs.History.{view_of}
+use Rattle.tac_hall.specs.Room.{Opening}
+use Rattle.tac_hall.specs.History as history
+use Rattle.tac_hall.specs.Seat.{Seated, CatchesUp}
+use Rattle.tac_hall.specs.declared.limits.Rotated.{Rotated}
 use Rattle.tac_hall.specs.declared.call.Call.{Call}
 use Rattle.tac_hall.specs.declared.call.Call.TheVariants as calls
-use Rattle.tac_hall.specs.declared.entry.Made.{Made}
+use Rattle.tac_hall.specs.View.{Made}
 use Rattle.tac_hall_console.specs.Commands.{is_rotate, is_reload, is_reload_devices}
 use Rattle.tac_hall_console.specs.Operated.{Outcome, CallsFor, ComesTo, IsRotation, IsReload, IsDevicesReload, LineComesTo, CameTo, Makes, noticed, made, rotated, refused, replied, barred, loaded, unloaded, batch_by, entries_by, rotation_of, entries_of, rotations_of, Replaces, policy_question}
 

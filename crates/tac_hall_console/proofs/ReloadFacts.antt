@@ -1,12 +1,12 @@
 -- What came of another policy.
 use Rattle.std.proofs.Common.{◌≡◌, ℕ, true, false, List, ◌++◌, Some, None, Result, Ok, Err, OnOk, inl, inr, refl, is_ok, if◌then◌else◌}
 use Rattle.pol_text.specs.declared.subject.Subject.{Subject}
-use Rattle.tac_forum.specs.History.{Opening}
-use Rattle.tac_forum.specs.Seat.{Seated, IsMade, IsRefused, CatchesUp}
+use Rattle.tac_hall.specs.Room.{Opening}
+use Rattle.tac_hall.specs.Seat.{Seated, IsMade, IsRefused, CatchesUp}
 use Rattle.tac_hall.specs.declared.call.Call.TheVariants as calls
-use Rattle.tac_hall.specs.declared.entry.Receipt.{Receipt}
+use Rattle.tac_hall.specs.declared.receipt.Receipt.{Receipt}
 use Rattle.tac_hall.specs.declared.fault.HallFault.{HallFault}
-use Rattle.tac_hall.specs.Seat.{made_of}
+use Rattle.tac_hall.specs.View.{made_of}
 use Rattle.tac_hall_console.specs.Operated.{Outcome, Reads, Unloads, IsReload, Replaces, policy_question, policy_in, made, refused, replied, barred, loaded, unloaded}
 use Rattle.tac_hall_console.specs.Users.{turnover, shuts_out}
 

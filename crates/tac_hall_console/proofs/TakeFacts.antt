@@ -3,7 +3,7 @@ use Rattle.std.proofs.Common.{◌≡◌, ◌<◌, ℕ, zero, suc, eqb, eqb-true,
 use Rattle.std.specs.Prelude.{codes}
 use Rattle.basics.specs.Lines.{split_at_first, lines_of}
 use Rattle.tac_audit.specs.declared.notice.Typing.{Typing}
-use Rattle.tac_forum.specs.History.{Opening}
+use Rattle.tac_hall.specs.Room.{Opening}
 use Rattle.tac_hall_console.specs.declared.answering.Console.{Console}
 use Rattle.tac_hall_console.specs.declared.fault.OperatorFault.{OperatorFault}
 use Rattle.tac_hall_console.specs.declared.fault.OperatorFault.TheVariants as faults

@@ -1,4 +1,4 @@
--- The lines that come at the console of a shared desk.
+-- The lines that come at the console of a hall.
 use Rattle.std.specs.Prelude.{ℕ, List, [], ◌∷◌, ◌==◌, codes, Bool, false, ◌||◌, if◌then◌else◌}
 use Rattle.std.specs.Str.{bytes_eq}
 

@@ -1,4 +1,4 @@
--- What was done at the console of a shared desk (docs/CONSOLE.md, "The console of `tacd serve`").
+-- What was done at the console of a hall (docs/CONSOLE.md, "The console of `tacd serve`").
 use Rattle.std.specs.Prelude.{◌≡◌, ◌<◌, ◌⊎◌, ℕ, List, [], ◌∷◌, ◌++◌, length, codes, true, false}
 use Rattle.std.specs.Prelude.{Option, Some, None, Result, Ok, Err, flat_map, filter_map, MatchBool}
 use Rattle.std.specs.Prelude.{if◌then◌else◌}
@@ -24,19 +24,18 @@ use Rattle.tac_audit.specs.Witness.{AreTold}
 use Rattle.tac_audit.specs.declared.notice.Typing.{Typing}
 use Rattle.tac_desk.specs.declared.query.Query.TheVariants as queries
 use Rattle.tac_desk.specs.declared.query.Report.TheVariants as reports
-use Rattle.tac_forum.specs.History.{Opening}
-use Rattle.tac_forum.specs.History as history
-use Rattle.tac_forum.specs.Seat.{Seated, IsMade, IsRefused, IsRotated, IsUnrotated, CatchesUp}
-use Rattle.tac_forum.specs.declared.limits.Rotated.{Rotated}
+use Rattle.tac_hall.specs.Room.{Opening}
+use Rattle.tac_hall.specs.History as history
+use Rattle.tac_hall.specs.Seat.{Seated, IsMade, IsRefused, IsRotated, IsUnrotated, CatchesUp}
+use Rattle.tac_hall.specs.declared.limits.Rotated.{Rotated}
 use Rattle.tac_hall.specs.declared.call.Call.{Call}
 use Rattle.tac_hall.specs.declared.call.Call.TheVariants as calls
 use Rattle.tac_hall.specs.declared.call.CallAnswer.{CallAnswer}
 use Rattle.tac_hall.specs.declared.call.CallAnswer.TheVariants as answers
-use Rattle.tac_hall.specs.declared.entry.Made.{Made}
-use Rattle.tac_hall.specs.declared.entry.Receipt.{Receipt}
+use Rattle.tac_hall.specs.View.{Made, made_of}
+use Rattle.tac_hall.specs.declared.receipt.Receipt.{Receipt}
 use Rattle.tac_hall.specs.declared.fault.HallFault.{HallFault}
 use Rattle.tac_hall.specs.FaultText.{fault_text}
-use Rattle.tac_hall.specs.Seat.{made_of}
 use Rattle.tac_hall_console.specs.declared.fault.OperatorFault.{OperatorFault}
 use Rattle.tac_hall_console.specs.declared.fault.OperatorFault.TheVariants as faults
 use Rattle.tac_hall_console.specs.Commands.{ended_lines, is_rotate, is_reload, is_reload_devices}
@@ -103,7 +102,7 @@ ComesTo opening was (actions.Tell notice) =
 abbrev pub IsRotation : Opening → Seated → Outcome → Seated → Type 0
 IsRotation opening was (noticed notice) now = ⊥
 IsRotation opening was (made entry) now = ⊥
-IsRotation opening was (rotated rotation) now = IsRotated was rotation now
+IsRotation opening was (rotated rotation) now = IsRotated opening was rotation now
 IsRotation opening was (refused fault) now = IsUnrotated opening now fault × CatchesUp was now
 IsRotation opening was (replied line) now = ⊥
 IsRotation opening was (barred asked) now = ⊥
@@ -222,7 +221,7 @@ answer_text (calls.Query query) (answers.Query answer) = query_answer query answ
 answer_text call answer = []
 
 abbrev pub refusal_line : HallFault → List ℕ
-refusal_line fault = codes "hall " ++ fault_text fault ++ 10 ∷ []
+refusal_line fault = codes "refused " ++ fault_text fault ++ 10 ∷ []
 
 -- the number of the segment, and how many calls its log has
 abbrev pub rotated_line : Rotated → List ℕ

@@ -3,7 +3,7 @@
 ghost use Rattle.std.specs.Prelude.{◌≡◌, ◌++◌, [], Err, IfOk, OnOk, OnErr};
 ghost use Rattle.tac_console.specs.Batching.{action_of, batch_after};
 ghost use Rattle.tac_console.specs.ConsoleText.{asked_by};
-ghost use Rattle.tac_hall.specs.History.{IsOfKind};
+ghost use Rattle.tac_hall.specs.Calls.{IsOfKind};
 ghost use Rattle.tac_hall_console.specs.Commands.{is_rotate as rotate_test};
 ghost use Rattle.tac_hall_console.specs.Commands.{is_reload as reload_test};
 ghost use Rattle.tac_hall_console.specs.Commands.{is_reload_devices as reload_devices_test};
@@ -23,8 +23,7 @@ use tac_console::{
     write_notice, write_query_answer,
 };
 use tac_desk::Desk;
-use tac_forum::{Rotated, Run, Seat, SharedDesk};
-use tac_hall::{Call, CallAnswer, HallFault};
+use tac_hall::{Call, CallAnswer, Hall, HallFault, Rotated, Run, Seat};
 
 // Room for one line, since most answers are one.
 const LINE: usize = 64;
@@ -82,7 +81,7 @@ pub(crate) fn write_answer(
 pub(crate) fn write_refusal(out: &mut Vec<u8>, fault: HallFault) -> Result<(), AllocError>
     ensures { OnOk result (out.new.items ≡ out.old.items ++ refusal_line fault) }
 {
-    match writeln!(out, "hall {fault}") {
+    match writeln!(out, "refused {fault}") {
         Ok(()) => Ok(()),
         Err(_) => Err(AllocError),
     }
@@ -102,7 +101,7 @@ fn write_rotated(out: &mut Vec<u8>, rotated: Rotated) -> Result<(), AllocError>
 // Ends the present segment, and adds what came of it.
 fn rotate<H: Wait, J: Run, D: Desk>(
     rt: &H,
-    desk: &SharedDesk<J, D>,
+    desk: &Hall<J, D>,
     seat: &mut Seat<J>,
     out: &mut Vec<u8>,
 ) -> Result<(), AllocError>
@@ -121,7 +120,7 @@ fn rotate<H: Wait, J: Run, D: Desk>(
 fn tell<H: Wait, J: Run, D: Desk>(
     rt: &H,
     alloc: Global,
-    desk: &SharedDesk<J, D>,
+    desk: &Hall<J, D>,
     seat: &mut Seat<J>,
     call: &Call,
     out: &mut Vec<u8>,
@@ -141,7 +140,7 @@ fn tell<H: Wait, J: Run, D: Desk>(
 fn act<H: Wait, J: Run, D: Desk>(
     rt: &H,
     alloc: Global,
-    desk: &SharedDesk<J, D>,
+    desk: &Hall<J, D>,
     seat: &mut Seat<J>,
     action: Action,
     out: &mut Vec<u8>,
@@ -164,7 +163,7 @@ fn act<H: Wait, J: Run, D: Desk>(
 fn reload<H: Wait, J: Run, D: Desk, S: Source>(
     rt: &H,
     alloc: Global,
-    desk: &SharedDesk<J, D>,
+    desk: &Hall<J, D>,
     source: &S,
     seat: &mut Seat<J>,
     out: &mut Vec<u8>,
@@ -223,7 +222,7 @@ fn is_rotate(line: &[u8]) -> bool
 fn answer_asked<H: Wait, J: Run, D: Desk>(
     rt: &H,
     alloc: Global,
-    desk: &SharedDesk<J, D>,
+    desk: &Hall<J, D>,
     console: &mut Console<J>,
     line: &[u8],
     out: &mut Vec<u8>,
@@ -247,7 +246,7 @@ fn answer_asked<H: Wait, J: Run, D: Desk>(
 pub(crate) fn answer_line<H: Wait, J: Run, D: Desk, S: Source>(
     rt: &H,
     alloc: Global,
-    desk: &SharedDesk<J, D>,
+    desk: &Hall<J, D>,
     source: &S,
     console: &mut Console<J>,
     line: &[u8],

@@ -1,4 +1,4 @@
-//! The console of a shared desk: an operator's lines, each of which is a call of one seat.
+//! The console of a hall: an operator's lines, each of which is a call of one seat.
 #![tactic(auto)]
 
 mod answering;

@@ -1,4 +1,4 @@
-//! The console of a shared desk, from its first line to the Stop.
+//! The console of a hall, from its first line to the Stop.
 
 ghost use Rattle.std.specs.Prelude.{◌≡◌};
 ghost use Rattle.tac_hall_console.specs.Operated.{IsOperated, AreHeard};
@@ -14,15 +14,14 @@ use std::sync::Wait;
 use tac_audit::{Typing, Witness};
 use tac_console::Batch;
 use tac_desk::Desk;
-use tac_forum::{Run, Seat, SharedDesk};
-use tac_hall::Call;
+use tac_hall::{Call, Hall, Run, Seat};
 
 // Makes the Stop, however the lines before it went. That it is refused is told, unless the console
 // has failed.
 fn stop<H: Wait, J: Run, D: Desk, W: Write>(
     rt: &H,
     alloc: Global,
-    desk: &SharedDesk<J, D>,
+    desk: &Hall<J, D>,
     seat: &mut Seat<J>,
     writer: &mut W,
     listened: Result<(), OperatorFault>,
@@ -38,10 +37,10 @@ fn stop<H: Wait, J: Run, D: Desk, W: Write>(
     Ok(())
 }
 
-/// The console of a shared desk (docs/CONSOLE.md): answers each line before it waits for the next.
+/// The console of a hall (docs/CONSOLE.md): answers each line before it waits for the next.
 /// A line that is an edit or a question is one call of this seat, and its answer is printed.
 /// Between `begin` and `commit` edits are kept instead, without a call, and the `commit` is one
-/// call with all of them. A call that is refused is told as `hall N REFUSAL`; no batch is open
+/// call with all of them. A call that is refused is told as `refused N REFUSAL`; no batch is open
 /// after that of a `commit` either. The line `rotate` ends the present segment, and `reload` puts
 /// the policy of the source in the place of the present one, in one call, after one that asks for
 /// that. A policy without a user is told as `fault NoUser` where the present one has one, and isn't
@@ -70,7 +69,7 @@ fn stop<H: Wait, J: Run, D: Desk, W: Write>(
 /// Linear in what is read and written, but for what the desk, the source and the witness take.
 pub fn operate<H, J: Run, D: Desk, S: Source, V: Witness<Typing>, R: Read, W: Write>(
     rt: &H,
-    desk: &SharedDesk<J, D>,
+    desk: &Hall<J, D>,
     source: &S,
     seat: Seat<J>,
     witness: &mut V,

@@ -17,7 +17,7 @@ use std::mem;
 use std::sync::Wait;
 use tac_audit::{Typing, Witness};
 use tac_desk::Desk;
-use tac_forum::{Run, SharedDesk};
+use tac_hall::{Hall, Run};
 use tac_io::read_piece;
 
 // How many bytes are read at once.
@@ -75,7 +75,7 @@ impl<J: Run> Operator<J> {
     fn answer<H: Wait, D: Desk, S: Source, V: Witness<Typing>, W: Write>(
         &mut self,
         rt: &H,
-        desk: &SharedDesk<J, D>,
+        desk: &Hall<J, D>,
         source: &S,
         witness: &mut V,
         writer: &mut W,
@@ -103,7 +103,7 @@ impl<J: Run> Operator<J> {
     fn take<H: Wait, D: Desk, S: Source, V: Witness<Typing>, W: Write>(
         &mut self,
         rt: &H,
-        desk: &SharedDesk<J, D>,
+        desk: &Hall<J, D>,
         source: &S,
         witness: &mut V,
         writer: &mut W,
@@ -133,7 +133,7 @@ impl<J: Run> Operator<J> {
     fn take_last<H: Wait, D: Desk, S: Source, V: Witness<Typing>, W: Write>(
         &mut self,
         rt: &H,
-        desk: &SharedDesk<J, D>,
+        desk: &Hall<J, D>,
         source: &S,
         witness: &mut V,
         writer: &mut W,
@@ -161,7 +161,7 @@ impl<J: Run> Operator<J> {
     pub(crate) fn listen<H: Wait, D: Desk, S: Source, V: Witness<Typing>, R: Read, W: Write>(
         &mut self,
         rt: &H,
-        desk: &SharedDesk<J, D>,
+        desk: &Hall<J, D>,
         source: &S,
         witness: &mut V,
         reader: &mut R,

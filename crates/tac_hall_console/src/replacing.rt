@@ -2,7 +2,7 @@
 
 ghost use Rattle.std.specs.Prelude.{◌≡◌, ◌++◌, IfOk, OnOk, OnErr};
 ghost use Rattle.std.specs.Option.{option_copied};
-ghost use Rattle.tac_hall.specs.History.{IsOfKind};
+ghost use Rattle.tac_hall.specs.Calls.{IsOfKind};
 ghost use Rattle.tac_hall_console.specs.Operated as operated;
 ghost use Rattle.tac_hall_console.specs.Operated.{Replaces};
 ghost use Rattle.tac_hall_console.specs.Operating as operating;
@@ -16,8 +16,7 @@ use std::alloc::{AllocError, Global};
 use std::io::Write;
 use std::sync::Wait;
 use tac_desk::{Desk, Query, Report};
-use tac_forum::{Run, Seat, SharedDesk};
-use tac_hall::{Call, CallAnswer};
+use tac_hall::{Call, CallAnswer, Hall, Run, Seat};
 
 // What is told of a policy that has no user, where the present one has some.
 const NO_USER: &[u8] = b"fault NoUser\n";
@@ -92,7 +91,7 @@ fn write_load<S: Source>(
 pub(crate) fn replace<H: Wait, J: Run, D: Desk, S: Source>(
     rt: &H,
     alloc: Global,
-    desk: &SharedDesk<J, D>,
+    desk: &Hall<J, D>,
     source: &S,
     seat: &mut Seat<J>,
     policy: Policy,

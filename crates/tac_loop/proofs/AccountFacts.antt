@@ -4,7 +4,7 @@ use Rattle.tac_conn.specs.declared.ask.Answer.{Answer}
 use Rattle.tac_conn.specs.declared.ask.Ask.{Ask}
 use Rattle.tac_audit.specs.declared.notice.Notice.{Notice}
 use Rattle.tac_hall.specs.declared.fault.HallFault.{HallFault}
-use Rattle.tac_worker.specs.declared.worked.End.{End}
+use Rattle.tac_worker.specs.declared.end.End.{End}
 use Rattle.tac_worker.specs.Linked.{Linked, put, traffic_on, IsOpen, StandsSo}
 use Rattle.tac_worker.specs.Noting.{answered}
 use Rattle.tac_worker.specs.Served.{served}

@@ -1,15 +1,15 @@
--- A seat of a shared desk that caught up before it did something may as well do so then.
+-- A seat of a hall that caught up before it did something may as well do so then.
 use Rattle.std.proofs.Common.{◌≡◌, ℕ, List, [], ◌∷◌, ◌++◌, ap, subst, ◌∙◌, append_assoc}
 use Rattle.std.specs.Prelude.{◌≢◌}
 use Rattle.std.proofs.lemmas.List.Elements.{All-append}
-use Rattle.tac_forum.specs.declared.event.Event.{Event}
-use Rattle.tac_forum.specs.History.{Opening, before_call, view_of, rotations_of}
-use Rattle.tac_forum.specs.Seat.{Seated, IsMade, CatchesUp}
+use Rattle.tac_hall.specs.declared.event.Event.{Event}
+use Rattle.tac_hall.specs.History.{before_call, view_of, rotations_of}
+use Rattle.tac_hall.specs.Room.{Opening}
+use Rattle.tac_hall.specs.Seat.{Seated, IsMade, CatchesUp}
 use Rattle.tac_hall.specs.declared.call.Call.TheVariants as calls
-use Rattle.tac_hall.specs.declared.entry.Made.{Made}
-use Rattle.tac_hall.specs.Seat.{made_of}
+use Rattle.tac_hall.specs.View.{Made, made_of, AreBelow}
 use Rattle.tac_roll.specs.Roll.{AreOthers}
-use Rattle.tac_worker.specs.AtDesk.{MakesOne}
+use Rattle.tac_worker.specs.AtHall.{MakesOne}
 use Rattle.tac_worker.specs.Worked.{Exchange, receipt_for}
 
 -- it saw what others did, and then more of that
@@ -48,6 +48,8 @@ makes_after opening was mid now exchange c h =
       number = m.number;
       seat = m.seat;
       place = m.place;
+      room = m.room;
+      above = subst (AreBelow exchange.segment exchange.place) c.view m.above;
       kind = m.kind;
       goes_on = m.goes_on;
       meaning = m.meaning;

@@ -5,7 +5,7 @@ use Rattle.std.specs.Io.KnownBytes.{Appends}
 use Rattle.tac_wire.specs.declared.door.Door.{Door}
 use Rattle.tac_worker.specs.declared.due.Due.{Due}
 use Rattle.tac_worker.specs.declared.due.Due.TheVariants as next
-use Rattle.tac_worker.specs.declared.worked.End.{End}
+use Rattle.tac_worker.specs.declared.end.End.{End}
 use Rattle.tac_worker.specs.Linked.{Linked, fresh, due_of, AsksPassword, Turns, Hears}
 use Rattle.tac_worker.specs.Linked.{after_sending}
 use Rattle.tac_worker.specs.Worked.{Exchange}

@@ -10,7 +10,7 @@ use std::alloc::{AllocError, Global};
 use std::io::{Read, Write};
 use tac_audit::{Notice, Witness};
 use tac_conn::Typed;
-use tac_worker::{Caller, Chunk, Due, Gate, HashWork, Link, Terms};
+use tac_worker::{Caller, Chunk, Due, HashWork, Link, Terms};
 
 /// One of many connections: its number, how it stands, and its socket.
 pub struct Line<'a, C: Caller, V: Witness<Notice>, S> {
@@ -32,9 +32,9 @@ impl<'a, C: Caller, V: Witness<Notice>, S: Drop> Drop for Line<'a, C, V, S> {
 
 impl<'a, C: Caller, V: Witness<Notice>, S> Line<'a, C, V, S> {
     /// A connection on which nothing came.
-    pub(crate) fn new<H, G>(
+    pub(crate) fn new(
         number: u64,
-        terms: &Terms<'a, H, G>,
+        terms: &Terms<'a>,
         witness: V,
         socket: S,
         caller: &C,
@@ -115,7 +115,7 @@ impl<'a, C: Caller, V: Witness<Notice>, S: Read + Write> Line<'a, C, V, S> {
     }
 
     /// Does what is due, once.
-    fn step<H, G: Gate>(&mut self, terms: &Terms<H, G>, caller: &mut C, chunk: &mut Chunk)
+    fn step(&mut self, terms: &Terms, caller: &mut C, chunk: &mut Chunk)
         ensures { steps.StepsAt C.makes C.rests S.remaining S.contents (linked.due_of self.old.link)
             self.old self.new caller.old caller.new }
     {
@@ -144,9 +144,9 @@ impl<'a, C: Caller, V: Witness<Notice>, S: Read + Write> Line<'a, C, V, S> {
     }
 
     /// Does what is due, one step after another, until it is to be left.
-    pub(crate) fn go<H, G: Gate>(
+    pub(crate) fn go(
         &mut self,
-        terms: &Terms<H, G>,
+        terms: &Terms,
         caller: &mut C,
         chunk: &mut Chunk,
         turns: u32,

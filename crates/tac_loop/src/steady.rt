@@ -2,8 +2,8 @@
 
 use std::sync::Wait;
 use tac_desk::Desk;
-use tac_forum::Run;
-use tac_worker::{Caller, DeskCaller, HallCaller};
+use tac_hall::Run;
+use tac_worker::{Caller, HallCaller};
 
 /// A caller whose rests add up, and between calls don't count: what it may have seen before a call
 /// it may as well have seen at that call.
@@ -19,17 +19,7 @@ pub trait Steady: Caller {
         → Self.makes mid exchange now → Self.makes was exchange now };
 }
 
-impl<'a, H: Wait, D: Desk> Steady for HallCaller<'a, H, D> {
-    ghost use Rattle.std.proofs.Common.{subst, ◌∙◌};
-    ghost use Rattle.tac_worker.specs.AtHall.{MakesOne};
-
-    ghost rests_on = { λ was mid now r s. s ∙ r };
-
-    ghost makes_after = { λ was mid now exchange r m.
-        subst (λ seat. MakesOne seat exchange now) r m };
-}
-
-impl<'a, H: Wait, J: Run, D: Desk> Steady for DeskCaller<'a, H, J, D> {
+impl<'a, H: Wait, J: Run, D: Desk> Steady for HallCaller<'a, H, J, D> {
     ghost use Rattle.tac_loop.specs.Steady as steady;
 
     ghost rests_on = { steady.catches_on };

@@ -16,7 +16,7 @@ use std::marker::Model;
 use std::snapshot::Snapshot;
 use tac_audit::{Notice, Witness};
 use tac_conn::Typed;
-use tac_worker::{Caller, Chunk, Gate, HashWork, Terms};
+use tac_worker::{Caller, Chunk, HashWork, Terms};
 
 /// One caller that many connections share, and those connections, each under a key.
 ///
@@ -84,12 +84,7 @@ impl<'a, C: Steady, V: Witness<Notice>, S: Read + Write + Drop> Switchboard<'a, 
     /// answers under which key it is served. Where memory is refused, nothing changes, and its
     /// witness and its socket come back. It takes memory only where more are served than ever
     /// before; linear in their count then, and else constant.
-    pub fn add<H, G>(
-        &mut self,
-        terms: &Terms<'a, H, G>,
-        witness: V,
-        socket: S,
-    ) -> Result<usize, NotAdded<V, S>>
+    pub fn add(&mut self, terms: &Terms<'a>, witness: V, socket: S) -> Result<usize, NotAdded<V, S>>
         ensures added { IfOk result (λ key. board.Adds (board.came terms.now.door.now witness socket
             self.old) key self.old self.new) }
         ensures err { OnErr result (self.new ≡ self.old) }
@@ -123,15 +118,9 @@ impl<'a, C: Steady, V: Witness<Notice>, S: Read + Write + Drop> Switchboard<'a, 
     /// which [`take_work`](Switchboard::take_work) has worked out, until
     /// [`adopt`](Switchboard::adopt) brings that back: such a packet isn't judged before.
     ///
-    /// It may wait for the caller, the witness and the gate, and for no socket that keeps to that.
-    /// Linear in what is read, but for what the caller and the witness take.
-    pub fn serve<H, G: Gate>(
-        &mut self,
-        key: usize,
-        terms: &Terms<H, G>,
-        chunk: &mut Chunk,
-        turns: u32,
-    ) -> Stop
+    /// It may wait for the caller and the witness, and for no socket that keeps to that. Linear in
+    /// what is read, but for what the caller and the witness take.
+    pub fn serve(&mut self, key: usize, terms: &Terms, chunk: &mut Chunk, turns: u32) -> Stop
         ensures { board.ServesAt C.makes C.rests S.remaining S.contents
             (board.at self.old.lines key) turns key result self.old self.new }
     {

@@ -9,11 +9,11 @@ use Rattle.tac_audit.specs.declared.notice.Notice.{Notice}
 use Rattle.tac_audit.specs.Witness.{AreTold}
 use Rattle.tac_audit.proofs.NoticeFacts.{are_answered}
 use Rattle.tac_hall.specs.declared.fault.HallFault.{HallFault}
-use Rattle.tac_forum.specs.History.{Opening}
-use Rattle.tac_forum.specs.Seat.{Seated, CatchesUp}
+use Rattle.tac_hall.specs.Room.{Opening}
+use Rattle.tac_hall.specs.Seat.{Seated, CatchesUp}
 use Rattle.tac_journal.specs.Log.{Keeping}
-use Rattle.tac_worker.specs.declared.worked.End.{End}
-use Rattle.tac_worker.specs.AtDesk.{MakesOne, Refuses}
+use Rattle.tac_worker.specs.declared.end.End.{End}
+use Rattle.tac_worker.specs.AtHall.{MakesOne, Refuses}
 use Rattle.tac_worker.specs.Linked.{Linked, IsOver, IsOpen, StandsSo}
 use Rattle.tac_worker.specs.Told.{RefusesOne, refused_of}
 use Rattle.tac_worker.specs.Worked.{answers_of}

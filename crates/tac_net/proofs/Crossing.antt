@@ -1,9 +1,6 @@
 -- What threads share, beside the hall and the door.
-use mir.Syntax.{w32}
-use denote.Plain.{UInt}
 use denote.Param.Send.{IsSend, IsSync, sendable}
 use Rattle.std.proofs.Crossing.{crosses}
-use Rattle.std.specs.contracts.net.tcp.TcpListener as TcpListener
 use Rattle.tac_wire.proofs.door.KeyDoor.TheSendSync as key_door
 use Rattle.boxcar.proofs.slot.OnceSlot.TheSendSync as slot
 use Rattle.boxcar.proofs.tag.Tag.TheSendSync as tag
@@ -26,12 +23,6 @@ use Rattle.tac_net.specs.contracts.port.Port as Port
 use Rattle.tac_net.specs.contracts.proxy_socket.ProxySocket as ProxySocket
 use Rattle.tac_net.specs.contracts.settings.Settings as Settings
 use Rattle.tac_net.specs.contracts.vigil.Vigil as Vigil
-
-pub Listener-sync : IsSync TcpListener.the_row
-Listener-sync = search (crosses, sendable) depth 60
-
-pub Number-sync : IsSync (UInt w32)
-Number-sync = search sendable depth 60
 
 pub Devices-send : IsSend Devices.the_row
 Devices-send = search (key_door.the_send, crosses, sendable) depth 60

@@ -2,7 +2,7 @@
 -- done on a board.
 use Rattle.std.proofs.Common.{◌≡◌, ◌+◌, ℕ, suc, ◌<◌, List, [], ◌∷◌, map, length, Option, Some, None, slice_index_or, refl, sym, ap, subst, arith}
 use Rattle.tac_wire.specs.declared.door.Door.{Door}
-use Rattle.tac_forum.specs.Seat.{Seated}
+use Rattle.tac_hall.specs.Seat.{Seated}
 use Rattle.tac_worker.specs.Worked.{Exchange}
 use Rattle.tac_loop.specs.declared.line.Line.{Line}
 use Rattle.tac_loop.specs.declared.stop.Stop.{Stop}

@@ -12,13 +12,13 @@ use Rattle.tac_audit.specs.Noted.{noted_of_each, AreAnswered}
 use Rattle.tac_audit.specs.Witness.{AreTold}
 use Rattle.tac_audit.proofs.NoticeFacts.{are_answered}
 use Rattle.tac_hall.specs.declared.fault.HallFault.{HallFault}
-use Rattle.tac_forum.specs.History.{Opening}
-use Rattle.tac_forum.specs.Seat.{Seated}
+use Rattle.tac_hall.specs.Room.{Opening}
+use Rattle.tac_hall.specs.Seat.{Seated}
 use Rattle.tac_hall_console.specs.declared.fault.OperatorFault.{OperatorFault}
 use Rattle.tac_hall_console.specs.Operated.{IsOperated}
 use Rattle.tac_journal.specs.Device.{HasLines}
 use Rattle.tac_journal.specs.Log.{Keeping}
-use Rattle.tac_worker.specs.declared.worked.End.{End}
+use Rattle.tac_worker.specs.declared.end.End.{End}
 use Rattle.tac_worker.specs.Told.{refused_of, TakesUntil}
 use Rattle.tac_worker.specs.Worked.{Exchange, answers_of, Traffic, IsServedBy}
 use Rattle.tac_net.specs.Connections.{TellsLog}

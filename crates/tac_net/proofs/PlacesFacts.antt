@@ -9,30 +9,27 @@ use Rattle.tac_desk.specs.Meaning.{Meaning}
 use Rattle.tac_desk.specs.Asking.{asked}
 use Rattle.tac_audit.specs.declared.notice.Notice.{Notice}
 use Rattle.tac_hall.specs.declared.fault.HallFault.{HallFault}
-use Rattle.tac_hall.specs.declared.entry.Entry.{Entry}
-use Rattle.tac_hall.specs.declared.entry.Made.{Made}
-use Rattle.tac_hall.specs.History.{Answers, Legal, at_first, and_then}
-use Rattle.tac_hall.specs.Shedding.{view_of, view_along}
-use Rattle.tac_forum.specs.History.{logs_of, joined}
-use Rattle.tac_forum.specs.History.{view_of as view_in}
-use Rattle.tac_forum.proofs.LogFacts.{logs_law}
-use Rattle.tac_worker.proofs.DeskFacts.{number_after, view_after}
-use Rattle.tac_worker.proofs.HallFacts.{view_after as hall_view_after}
+use Rattle.tac_hall.specs.Calls.{Entry, Answers, Legal, at_first, and_then}
+use Rattle.tac_hall.specs.View.{Made, part_of, view_along}
+use Rattle.tac_hall.specs.History.{logs_of, joined}
+use Rattle.tac_hall.specs.History.{view_of as view_in}
+use Rattle.tac_hall.proofs.LogFacts.{logs_law}
+use Rattle.tac_worker.proofs.HallFacts.{number_after, view_after}
 use Rattle.tac_worker.proofs.ServedFacts.{bytes_sent-append}
-use Rattle.tac_worker.specs.declared.worked.End.{End}
-use Rattle.tac_worker.specs.declared.worked.End.TheVariants.{Memory, WriteFault, Unwitnessed}
-use Rattle.tac_worker.specs.AtDesk.{MakesOne, Refuses}
+use Rattle.tac_worker.specs.declared.end.End.{End}
+use Rattle.tac_worker.specs.declared.end.End.TheVariants.{Memory, Unwitnessed}
+use Rattle.tac_worker.specs.AtHall.{MakesOne, Refuses}
 use Rattle.tac_worker.specs.Linked.{put}
 use Rattle.tac_worker.specs.Served.{Sending, served, asks, bytes_sent}
 use Rattle.tac_worker.specs.Worked.{Exchange, asks_of, answers_of, in_view, WritesSome, Writes, IsServedBy}
-use Rattle.tac_forum.specs.History.{Opening}
-use Rattle.tac_forum.specs.Seat.{Seated, CatchesUp}
+use Rattle.tac_hall.specs.Room.{Opening}
+use Rattle.tac_hall.specs.Seat.{Seated, CatchesUp}
 use Rattle.tac_loop.specs.Calls.{Call, exchanges, calls_of}
 use Rattle.tac_loop.specs.Board.{IsAccounted}
 use Rattle.tac_loop.proofs.AccountFacts.{served_by_its_own, open_by_its_own}
 use Rattle.tac_net.specs.Shared.{packets_in, answers_by}
 use Rattle.tac_net.specs.Connections.{IsTold, IsRefused, DeskLine}
-use Rattle.tac_net.specs.Places.{calls_before, StoodAt, IsSaid, LeavesUnput, IsSaidOn, PlacesLaw, HallPlacesLaw, ReceiptPlacesLaw}
+use Rattle.tac_net.specs.Places.{calls_before, StoodAt, IsSaid, LeavesUnput, IsSaidOn, PlacesLaw}
 use Rattle.tac_net.proofs.SharedFacts.{sent_on, sent_stream_law}
 
 -- ---- the calls of a log, one after another
@@ -92,14 +89,14 @@ viewed_both base whole (made ∷ one) two h k = (h.0, viewed_both base whole one
 
 module _ (base : Meaning) (number : ℕ) (whole : List (List Entry)) where
   viewed_of : (earlier logs : List (List Entry)) (log : List Entry) → earlier ++ log ∷ logs ≡ whole → (rest first : List Entry) (place : ℕ) → first ++ rest ≡ log → place ≡ length first
-      → Answered base (joined earlier ++ first) rest → Viewed base whole (view_of (length earlier) number place rest)
+      → Answered base (joined earlier ++ first) rest → Viewed base whole (part_of (length earlier) number place rest)
   viewed_of earlier logs log parts [] first place own at h = tt
   viewed_of earlier logs log parts (entry ∷ rest) first place own at h =
       let one = h.0 in
       let here : first ≡ take place log = sym (take-append_seam first (entry ∷ rest)) ∙ ap (λ (l : List Entry). take (length first) l) own ∙ ap (λ (n : ℕ). take n log) (sym at) in
       let before : joined earlier ++ first ≡ calls_before (length earlier) place whole =
       ap (λ (l : List Entry). joined earlier ++ l) here ∙ sym (before_in earlier place log logs) ∙ ap (λ (ls : List (List Entry)). calls_before (length earlier) place ls) parts in
-      viewed_next base whole (entry.seat == number) (record { segment = length earlier; place = place; call = entry.call; answer = entry.answer }) (view_of (length earlier) number (suc place) rest)
+      viewed_next base whole (entry.seat == number) (record { segment = length earlier; place = place; call = entry.call; answer = entry.answer }) (part_of (length earlier) number (suc place) rest)
       (one.0, one.1, subst (λ (l : List Entry). Legal base l one.0) before one.2, one.3)
       (viewed_of earlier logs log parts rest (first ++ entry ∷ []) (suc place) (append_assoc first (entry ∷ []) rest ∙ own) (omega (arith, at, length-append first (entry ∷ [])))
       (subst (λ (l : List Entry). Answered base l rest) (append_assoc (joined earlier) first (entry ∷ [])) h.1))
@@ -109,8 +106,8 @@ module _ (base : Meaning) (number : ℕ) (whole : List (List Entry)) where
   viewed_along [] earlier segment parts is h = tt
   viewed_along (log ∷ logs) earlier segment parts is h =
       let both = answered_parts base log (joined logs) (joined earlier) h in
-      viewed_both base whole (view_of segment number 0 log) (view_along (suc segment) number logs)
-      (subst (λ (n : ℕ). Viewed base whole (view_of n number 0 log)) (sym is)
+      viewed_both base whole (part_of segment number 0 log) (view_along (suc segment) number logs)
+      (subst (λ (n : ℕ). Viewed base whole (part_of n number 0 log)) (sym is)
       (viewed_of earlier logs log parts log [] 0 refl refl (subst (λ (l : List Entry). Answered base l log) (sym (append-nil (joined earlier))) both.0)))
       (viewed_along logs (earlier ++ log ∷ []) (suc segment) (append_assoc earlier (log ∷ []) logs ∙ parts) (omega (arith, is, length-append earlier (log ∷ [])))
       (subst (λ (l : List Entry). Answered base l (joined logs)) (sym (joined_last earlier log)) both.1))
@@ -155,11 +152,6 @@ viewed_by : (base last : Meaning) (logs : List (List Entry)) (number : ℕ) (bef
 viewed_by base last logs number before view legal is =
     viewed_after base logs before view (subst (λ (l : List Made). Viewed base logs l) is (viewed_along base number logs logs [] 0 refl refl (answered base (joined logs) last legal)))
 
-said_at : (door : Door) (bytes : List ℕ) (base last : Meaning) (logs : List (List Entry)) (number : ℕ) (before after : List Made) (made : List Exchange) (left : List Ask) → Legal base (joined logs) last
-    → view_along 0 number logs ≡ before ++ (map in_view made ++ after) → asks door bytes ≡ asks_of made ++ left → IsSaid door bytes base logs made
-said_at door bytes base last logs number before after made left legal view asks_them =
-    said_by door bytes base logs after made left (viewed_by base last logs number before (map in_view made ++ after) legal view) asks_them
-
 -- ---- what was put on a connection
 
 -- what was asked by these bytes, and the first of what is sent by the answers, which was put there
@@ -182,7 +174,6 @@ module _ (door : Door) (sendings : List Sending) (answers : List Answer) (bytes 
 
   put_by : (end : End) → Writes end door sendings answers (Some []) (Some bytes) → Puts (Some end)
   put_by Memory w = (bytes_sent door w.others, first_put w.first w.others w.parts w.written, tt)
-  put_by WriteFault w = (w.others, w.parts ∙ ap (λ (l : List ℕ). l ++ w.others) (sym w.written), w.some_left)
   put_by Unwitnessed w = (bytes_sent door (w.next ++ w.others), first_put w.first (w.next ++ w.others) (w.parts ∙ append_assoc w.first w.next w.others) w.written, tt)
   put_by end w = ([], sym w ∙ sym (append-nil bytes), refl)
 
@@ -227,12 +218,6 @@ module _ (base : Meaning) (logs : List (List Entry)) (number : ℕ) (after : Lis
 
 -- ---- the laws
 
-pub receipt_places_law : ReceiptPlacesLaw
-receipt_places_law end door was now before after old new work base last logs later legal view =
-    let ends = work.ends in
-    said_at door work.input base last logs now.seat.number was.seat.view later ends.made ends.left legal
-    (view ∙ ap (λ (l : List Made). l ++ later) ends.makes.view ∙ append_assoc was.seat.view (map in_view ends.made) later) ends.asks
-
 pub places_law : PlacesLaw
 places_law opening is_kept board working last history later legal view =
     let calls = working.calls in
@@ -249,9 +234,3 @@ places_law opening is_kept board working last history later legal view =
     → IsSaidOn line opening.meaning (logs_of history) (calls_of line.number calls) =
     λ line a. said_on opening is_kept board.first calls board.next line a opening.meaning (logs_of history) (viewed_own opening.meaning (logs_of history) line.number later calls viewed) in
     (λ key line e. own line (working.served key line e), λ k d l. own _ (working.over k d l))
-
-pub hall_places_law : HallPlacesLaw
-hall_places_law end door was now lines traffic work base last logs later legal view =
-    let ends = work.ends in
-    said_at door work.input base last logs now.number was.view later ends.made ends.left legal
-    (view ∙ ap (λ (l : List Made). l ++ later) (hall_view_after was ends.made now ends.makes) ∙ append_assoc was.view (map in_view ends.made) later) ends.asks

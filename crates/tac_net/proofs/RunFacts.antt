@@ -1,8 +1,8 @@
 -- A server's course, put together from its parts.
 use Rattle.std.proofs.Common.{◌≡◌, ℕ, List, ◌∷◌, length, All, Option, Result, Err, refl}
 use mathlib.Core.Logic.{inl, inr}
-use Rattle.tac_forum.specs.History.{Opening}
-use Rattle.tac_forum.specs.Seat.{Seated, IsFresh}
+use Rattle.tac_hall.specs.Room.{Opening}
+use Rattle.tac_hall.specs.Seat.{Seated, IsFresh}
 use Rattle.tac_hall_console.specs.declared.fault.OperatorFault.{OperatorFault}
 use Rattle.tac_journal.specs.Log.{Keeping}
 use Rattle.tac_net.specs.Ending.{Closes}

@@ -2,7 +2,7 @@
 use Rattle.std.proofs.Common.{◌≡◌, ◌+◌, ℕ, List, Option, ap, ◌∙◌, arith}
 use Rattle.tac_wire.specs.declared.door.Door.{Door}
 use Rattle.tac_audit.specs.declared.notice.Notice.{Notice}
-use Rattle.tac_forum.specs.Seat.{Seated}
+use Rattle.tac_hall.specs.Seat.{Seated}
 use Rattle.tac_journal.specs.Log.{Keeping}
 use Rattle.tac_worker.specs.Worked.{Exchange}
 use Rattle.tac_loop.specs.declared.line.Line.{Line}

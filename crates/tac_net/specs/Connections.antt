@@ -1,14 +1,14 @@
--- What a worker of a shared desk has done that served many connections in turns, and what several
+-- What a worker of a hall has done that served many connections in turns, and what several
 -- have.
 use Rattle.std.specs.Prelude.{◌≡◌, ◌≤◌, ℕ, List, [], ◌∷◌, ◌++◌, Bool, true, Option}
 use Rattle.tac_audit.specs.declared.event.Named.{Named}
 use Rattle.tac_audit.specs.declared.notice.Notice.{Notice}
 use Rattle.tac_audit.specs.Noted.{AreAnswered}
 use Rattle.tac_audit.specs.Witness.{AreTold}
-use Rattle.tac_forum.specs.History.{Opening}
-use Rattle.tac_forum.specs.Seat.{Seated, CatchesUp}
+use Rattle.tac_hall.specs.Room.{Opening}
+use Rattle.tac_hall.specs.Seat.{Seated, CatchesUp}
 use Rattle.tac_journal.specs.Log.{Keeping}
-use Rattle.tac_worker.specs.AtDesk as at_desk
+use Rattle.tac_worker.specs.AtHall as at_desk
 use Rattle.tac_wire.specs.declared.door.Door.{Door}
 use Rattle.tac_loop.specs.Board.{Board, AreAll, IsWorking}
 use Rattle.tac_loop.specs.declared.line.Line.{Line}

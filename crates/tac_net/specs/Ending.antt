@@ -3,9 +3,9 @@ use Rattle.std.specs.Prelude.{◌≡◌, ℕ, List, [], ◌∷◌, ◌++◌, cod
 use Rattle.std.specs.Prelude.{Result, Ok, Err}
 use Rattle.std.specs.Io.KnownBytes.{Appends}
 use Rattle.tac_desk.specs.Meaning.{Meaning}
-use Rattle.tac_forum.specs.History.{Opening}
-use Rattle.tac_forum.specs.Seat.{Seated}
-use Rattle.tac_forum.specs.Closing.{IsSettled}
+use Rattle.tac_hall.specs.Room.{Opening}
+use Rattle.tac_hall.specs.Seat.{Seated}
+use Rattle.tac_hall.specs.Closing.{IsSettled}
 use Rattle.tac_hall_console.specs.Operated.{WritesBeginning}
 use Rattle.tac_net.specs.declared.fault.ServeFault.{ServeFault}
 use Rattle.tac_net.specs.declared.fault.ServeFault.TheVariants.{WriteFault, Memory, CloseRefused}

@@ -10,8 +10,8 @@ use Rattle.tac_status.specs.declared.connection_counts.Departure.{Departure}
 use Rattle.tac_status.specs.declared.connection_counts.Departure.TheVariants as departures
 use Rattle.tac_status.specs.declared.connection_counts.Rejection.{Rejection}
 use Rattle.tac_status.specs.declared.connection_counts.Rejection.TheVariants as rejections
-use Rattle.tac_worker.specs.declared.worked.End.{End}
-use Rattle.tac_worker.specs.declared.worked.End.TheVariants as ends
+use Rattle.tac_worker.specs.declared.end.End.{End}
+use Rattle.tac_worker.specs.declared.end.End.TheVariants as ends
 use Rattle.tac_net.specs.declared.departing.Parting.{Parting}
 use Rattle.tac_net.specs.declared.departing.Parting.TheVariants as partings
 
@@ -43,9 +43,7 @@ ended_as lacks ends.Stopped = departures.Server
 ended_as lacks ends.LogFull = departures.Server
 ended_as lacks ends.Memory = departures.Memory
 ended_as lacks ends.ReadFault = if lacks then departures.PacketMemory else departures.Read
-ended_as lacks ends.WriteFault = departures.Write
 ended_as lacks ends.Unwitnessed = departures.Log
-ended_as lacks ends.Held = departures.Server
 ended_as lacks ends.NoSeat = departures.Server
 
 -- one that was left so for good

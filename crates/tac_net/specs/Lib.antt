@@ -1,6 +1,5 @@
 pub mod Callers
 pub mod Logs
-pub mod Serving
 pub mod Connections
 pub mod Opening
 pub mod Ending

@@ -1,26 +1,22 @@
 -- What a worker sends, by the places that its calls have in the history of its desk.
-use Rattle.std.specs.Prelude.{◌≡◌, ◌<◌, ℕ, zero, suc, List, [], ◌∷◌, ◌++◌, take, length}
+use Rattle.std.specs.Prelude.{◌≡◌, ℕ, zero, suc, List, [], ◌∷◌, ◌++◌, take}
 use Rattle.std.specs.Prelude.{Bool, Option, Some, None}
 use Rattle.tac_wire.specs.declared.door.Door.{Door}
 use Rattle.tac_desk.specs.Meaning.{Meaning}
-use Rattle.tac_hall.specs.declared.entry.Entry.{Entry}
-use Rattle.tac_hall.specs.declared.entry.Made.{Made}
-use Rattle.tac_worker.specs.declared.worked.End.{End}
-use Rattle.tac_worker.specs.declared.worked.End.TheVariants.{Memory, WriteFault, Unwitnessed}
-use Rattle.tac_hall.specs.History.{Legal}
-use Rattle.tac_hall.specs.Seat.{Sitting}
-use Rattle.tac_hall.specs.Shedding.{view_along}
-use Rattle.tac_forum.specs.declared.event.Event.{Event}
-use Rattle.tac_forum.specs.History.{Opening, calls_in, logs_of, joined, view_of}
+use Rattle.tac_hall.specs.Calls.{Entry, Legal}
+use Rattle.tac_hall.specs.View.{Made}
+use Rattle.tac_worker.specs.declared.end.End.{End}
+use Rattle.tac_worker.specs.declared.end.End.TheVariants.{Memory, Unwitnessed}
+use Rattle.tac_hall.specs.declared.event.Event.{Event}
+use Rattle.tac_hall.specs.History.{calls_in, logs_of, view_of}
+use Rattle.tac_hall.specs.Room.{Opening}
 use Rattle.tac_worker.specs.Linked.{put}
 use Rattle.tac_worker.specs.Served.{served, bytes_sent}
-use Rattle.tac_worker.specs.Worked.{Exchange, answers_of, Calling, Traffic, IsServed}
-use Rattle.tac_worker.specs.AtHall as at_hall
+use Rattle.tac_worker.specs.Worked.{Exchange, answers_of}
 use Rattle.tac_loop.specs.Calls.{calls_of}
 use Rattle.tac_loop.specs.Board.{AreAll}
 use Rattle.tac_desk.specs.Serving.{sent_bytes}
 use Rattle.tac_net.specs.Connections.{DeskLine, DeskBoard, IsDeskBoard}
-use Rattle.tac_net.specs.Logs.{Logs}
 use Rattle.tac_net.specs.Shared.{said_shared_on, packets_in}
 
 -- the calls before this place of this segment, in the logs of one segment after another: all of
@@ -53,11 +49,10 @@ pub record IsSaid (door : Door) (bytes : List ℕ) (base : Meaning) (logs : List
       ≡ sent_bytes door (said_shared_on door base bytes meanings).sent
 
 -- what is left to be put on a connection that stands so: nothing once it has ended, unless memory
--- ran out, the writer failed, or the witness refused a notice
+-- ran out, or the witness refused a notice
 abbrev pub LeavesUnput : Option End → List ℕ → Type 0
 LeavesUnput None left = Unit {0}
 LeavesUnput (Some Memory) left = Unit {0}
-LeavesUnput (Some WriteFault) left = 0 < length left
 LeavesUnput (Some Unwitnessed) left = Unit {0}
 LeavesUnput (Some end) left = left ≡ []
 
@@ -73,7 +68,7 @@ pub record IsSaidOn (line : DeskLine) (base : Meaning) (logs : List (List Entry)
       ≡ put line.link ++ left
   pub leaves : LeavesUnput line.link.end left
 
--- this is true of each connection of a seat of a shared desk, by the calls that the seat made for
+-- this is true of each connection of a seat of a hall, by the calls that the seat made for
 -- it, wherever the calls of a history are legal, and it has exactly the calls that the seat has
 -- seen of itself, with what that called later
 abbrev pub PlacesLaw : Type 0
@@ -85,25 +80,3 @@ PlacesLaw =
     → view_of board.caller.number history ≡ view_of board.caller.number board.caller.seen ++ later
     → AreAll (λ line. IsSaidOn line opening.meaning (logs_of history)
     (calls_of line.number working.calls)) board
-
--- and of each that a seat of a hall served, wherever the logs of one segment after another are
--- together a legal history, and have exactly the view of the seat, with what that called later
-abbrev pub HallPlacesLaw : Type 0
-HallPlacesLaw =
-    (end : End) (door : Door) (was now : Sitting)
-    (lines : Option (List (List ℕ))) (traffic : Traffic)
-    (work : at_hall.IsServedAt end door was now (Logs lines) traffic)
-    (base last : Meaning) (logs : List (List Entry)) (later : List Made)
-    → Legal base (joined logs) last
-    → view_along 0 now.number logs ≡ now.view ++ later
-    → IsSaid door work.input base logs work.ends.made
-
--- the same where its receipts were kept
-abbrev pub ReceiptPlacesLaw : Type 0
-ReceiptPlacesLaw =
-    (end : End) (door : Door) (was now : Calling) (before after old new : Option (List ℕ))
-    (work : IsServed end door was now before after old new)
-    (base last : Meaning) (logs : List (List Entry)) (later : List Made)
-    → Legal base (joined logs) last
-    → view_along 0 now.seat.number logs ≡ now.seat.view ++ later
-    → IsSaid door work.input base logs work.ends.made

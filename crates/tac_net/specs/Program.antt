@@ -1,8 +1,8 @@
 -- A server with a console, from its first line to the closing of its desk.
 use Rattle.std.specs.Prelude.{◌≡◌, ◌⊎◌, ℕ, List, ◌∷◌, length, All, Option, Result, Ok, Err}
 use Rattle.std.specs.Io.KnownBytes.{Appends}
-use Rattle.tac_forum.specs.History.{Opening}
-use Rattle.tac_forum.specs.Seat.{Seated, IsFresh}
+use Rattle.tac_hall.specs.Room.{Opening}
+use Rattle.tac_hall.specs.Seat.{Seated, IsFresh}
 use Rattle.tac_hall_console.specs.Operated.{IsOperated}
 use Rattle.tac_hall_console.specs.declared.fault.OperatorFault.{OperatorFault}
 use Rattle.tac_hall_console.specs.declared.fault.OperatorFault.TheVariants as operator

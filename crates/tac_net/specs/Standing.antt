@@ -1,7 +1,7 @@
 -- How a worker stands that serves many connections.
 use Rattle.std.specs.Prelude.{◌≡◌, ◌+◌, ℕ}
 use Rattle.tac_audit.specs.declared.notice.Notice.{Notice}
-use Rattle.tac_forum.specs.Seat.{Seated}
+use Rattle.tac_hall.specs.Seat.{Seated}
 use Rattle.tac_journal.specs.Log.{Keeping}
 use Rattle.tac_loop.specs.Board.{Board, AreAll}
 use Rattle.tac_net.specs.Connections.{Begins}

@@ -16,7 +16,7 @@ use std::sync::Wait;
 use std::time::Clock;
 use tac_audit::WhyTurnedAway;
 use tac_desk::Desk;
-use tac_forum::Run;
+use tac_hall::Run;
 use tac_journal::{Log, LogFiles};
 use tac_status::Rejection;
 

@@ -16,7 +16,7 @@ use std::thread::{Threads, join_mut};
 use std::time::Clock;
 use tac_audit::Nobody;
 use tac_desk::Desk;
-use tac_forum::{Run, Seat};
+use tac_hall::{Run, Seat};
 use tac_hall_console::{OperatorFault, Source, operate};
 use tac_journal::{ConsoleLog, Log, LogFiles, LogWriter, Typists};
 

@@ -34,9 +34,8 @@ fn by_end<S, C: Clock>(end: End, socket: &Socket<'_, S, C>) -> Departure
         End::Memory => Departure::Memory,
         End::ReadFault if socket.lacks_memory() => Departure::PacketMemory,
         End::ReadFault => Departure::Read,
-        End::WriteFault => Departure::Write,
         End::Unwitnessed => Departure::Log,
-        End::Stopped | End::LogFull | End::Held | End::NoSeat => Departure::Server,
+        End::Stopped | End::LogFull | End::NoSeat => Departure::Server,
     }
 }
 

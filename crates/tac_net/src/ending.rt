@@ -8,7 +8,7 @@ use basics::send;
 use std::alloc::AllocError;
 use std::io::Write;
 use tac_desk::Desk;
-use tac_forum::{Run, Seat, SharedDesk};
+use tac_hall::{Hall, Run, Seat};
 
 const REFUSED: &[u8] = b"close refused\n";
 
@@ -35,7 +35,7 @@ fn add_seats<J: Run>(seats: &mut Vec<Seat<J>>, served: Vec<Seat<J>>) -> Result<(
 
 /// Closes a desk with the console's seat and those of its workers. The list has room for them.
 pub(crate) fn close<J: Run, D: Desk, W: Write>(
-    desk: SharedDesk<J, D>,
+    desk: Hall<J, D>,
     console: Seat<J>,
     served: Vec<Seat<J>>,
     room: Vec<Seat<J>>,

@@ -1,4 +1,4 @@
-//! Serving a desk on the network: workers in threads, each with a seat, and a console.
+//! Serving a hall on the network: workers in threads, each with a seat, and a console.
 #![tactic(auto)]
 
 mod acceptor;
@@ -14,7 +14,6 @@ mod files;
 mod filling;
 mod gauge;
 mod greeting;
-mod hall_worker;
 mod hashing;
 mod hush;
 mod intake;
@@ -32,7 +31,6 @@ mod port;
 mod premises;
 mod program;
 mod proxy_socket;
-mod serving;
 mod settings;
 mod sharing;
 mod socket;
@@ -53,12 +51,11 @@ pub use lead::Lead;
 pub use listeners::Listeners;
 pub use packet_memory::{PacketMemory, PacketShare};
 pub use patience::{Idle, Patience};
-pub use pause::{Pause, accepted};
+pub use pause::Pause;
 pub use peer::{Peer, Way};
 pub use port::Port;
 pub use program::serve;
 pub use proxy_socket::ProxySocket;
-pub use serving::serve_on;
 pub use settings::Settings;
 pub use sharing::sharing_laws;
 pub use socket::Socket;

@@ -1,7 +1,7 @@
 //! The opening of a server: its seats, and its first lines.
 
 ghost use Rattle.std.specs.Prelude.{◌≡◌, ◌++◌, length, All, IfOk, IfErr, OnOk};
-ghost use Rattle.tac_forum.specs.Seat.{IsFresh};
+ghost use Rattle.tac_hall.specs.Seat.{IsFresh};
 ghost use Rattle.tac_net.specs.Opening as opening;
 
 use crate::acceptor::{Acceptor, Entrance};
@@ -20,8 +20,7 @@ use std::io::{self, Write};
 use std::net::Net;
 use std::sync::Wait;
 use tac_desk::Desk;
-use tac_forum::{Run, SharedDesk};
-use tac_hall::HallFault;
+use tac_hall::{Hall, HallFault, Run};
 
 // The port, if there is one, as the worker has it that waits with this for calls there.
 fn port_of(poller: &Poller, port: &Option<Port>) -> io::Result<Option<Entrance<TcpListener>>> {
@@ -89,7 +88,7 @@ pub(crate) fn waits_of<R: Net>(
 pub(crate) fn places_of<R: Wait, J: Run, D: Desk>(
     rt: &R,
     alloc: Global,
-    desk: &SharedDesk<J, D>,
+    desk: &Hall<J, D>,
     waits: Vec<Waits>,
 ) -> Result<Vec<Place<J>>, HallFault>
     ensures count { IfOk result (λ places. length places.items ≡ length waits.items) }

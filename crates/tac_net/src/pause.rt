@@ -1,13 +1,7 @@
 //! How long a worker pauses where no connection can be accepted.
 
-ghost use Rattle.std.specs.Prelude.{◌≡◌, IfErr};
+ghost use Rattle.std.specs.Prelude.{◌≡◌};
 ghost use Rattle.tac_net.specs.Pause as pauses;
-ghost use Rattle.tac_net.specs.Serving.{IsUnaccepted};
-
-use std::io;
-use std::thread::sleep;
-use std::time::{Clock, Duration};
-use tac_worker::End;
 
 /// The first pause, in milliseconds.
 const FIRST: u64 = 50;
@@ -45,28 +39,5 @@ impl Pause {
         ensures { result ≡ self.milliseconds }
     {
         self.milliseconds
-    }
-}
-
-/// What is done with what came of waiting for a connection: where there is none it is paused, so
-/// that a lasting fault of the system costs no processor.
-pub fn accepted<T: Drop, C: Clock>(
-    clock: &C,
-    pause: &mut Pause,
-    came: io::Result<T>,
-) -> Result<T, End>
-    ensures fault { IfErr result IsUnaccepted }
-    ensures pause { pauses.Goes result pause.old pause.new }
-{
-    match came {
-        Ok(connection) => {
-            *pause = Pause::first();
-            Ok(connection)
-        }
-        Err(_) => {
-            sleep(clock, Duration::from_millis(pause.milliseconds()));
-            *pause = pause.next();
-            Err(End::ReadFault)
-        }
     }
 }

@@ -6,7 +6,7 @@ use crate::listeners::Listeners;
 use crate::settings::Settings;
 use crate::vigil::Vigil;
 use tac_desk::Desk;
-use tac_forum::{Run, SharedDesk};
+use tac_hall::{Hall, Run};
 use tac_status::Counts;
 
 /// What the threads of a server share.
@@ -14,7 +14,7 @@ use tac_status::Counts;
 pub(crate) struct Premises<'a, R, J: Run, D: Desk, L> {
     pub(crate) rt: &'a R,
     pub(crate) listeners: &'a Listeners,
-    pub(crate) desk: &'a SharedDesk<J, D>,
+    pub(crate) desk: &'a Hall<J, D>,
     pub(crate) settings: &'a Settings,
     pub(crate) vigil: &'a Vigil,
     pub(crate) intake: &'a Intake,

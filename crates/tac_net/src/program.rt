@@ -26,8 +26,7 @@ use std::sync::Wait;
 use std::thread::{Threads, join_mut, map_vec};
 use std::time::Clock;
 use tac_desk::Desk;
-use tac_forum::{EmptyHistory, Run, Seat, SharedDesk};
-use tac_hall::HallFault;
+use tac_hall::{EmptyHistory, Hall, HallFault, Run, Seat};
 use tac_hall_console::{OperatorFault, Source};
 use tac_journal::{Log, LogFiles, Typists};
 
@@ -182,7 +181,7 @@ where
     let vigil = Vigil::new();
     let (intake, waits) = waits_of(rt, rt.alloc(), listeners, settings)?;
     let hashing = Hashing::new(rt.alloc())?;
-    let desk = SharedDesk::<J, D>::new(history, desk, settings.limits);
+    let desk = Hall::<J, D>::new(history, desk, settings.limits);
     let Ok(console) = desk.seat(rt) else {
         return Err(refuse(output));
     };

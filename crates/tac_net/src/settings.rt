@@ -3,7 +3,7 @@
 use crate::callers::Callers;
 use crate::patience::Idle;
 use basics::Bytes;
-use tac_forum::Limits;
+use tac_hall::Limits;
 
 /// Whom a server serves, and how much.
 pub struct Settings {

@@ -1,7 +1,7 @@
 //! What a worker sends, by what its desk represents.
 
 ghost use Rattle.tac_net.specs.Clear.{ClearLaw};
-ghost use Rattle.tac_net.specs.Places.{PlacesLaw, HallPlacesLaw, ReceiptPlacesLaw};
+ghost use Rattle.tac_net.specs.Places.{PlacesLaw};
 ghost use Rattle.tac_net.specs.Shared.{SharingLaws};
 
 /// Does nothing. The clauses are true of all connections: what a worker sends is what a server says
@@ -10,7 +10,5 @@ ghost use Rattle.tac_net.specs.Shared.{SharingLaws};
 pub fn sharing_laws()
     ensures shared { SharingLaws }
     ensures places { PlacesLaw }
-    ensures hall_places { HallPlacesLaw }
-    ensures receipt_places { ReceiptPlacesLaw }
     ensures in_clear { ClearLaw }
 {}

@@ -15,7 +15,7 @@ use std::sync::atomic::{AtomicU64, Ordering};
 use std::time::Clock;
 use tac_audit::{Named, Origin, WhyTurnedAway};
 use tac_desk::Desk;
-use tac_forum::Run;
+use tac_hall::Run;
 use tac_journal::{Log, LogFiles, LogWriter, log_turned_away};
 use tac_status::Rejection;
 

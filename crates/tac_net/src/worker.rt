@@ -30,12 +30,12 @@ use tac_audit::Named;
 use tac_desk::Desk;
 use tac_digests::{Done, Job};
 use tac_first::Shown;
-use tac_forum::{Run, Seat};
+use tac_hall::{Run, Seat};
 use tac_journal::{Log, LogFiles, Moments};
 use tac_loop::{Stop, Switchboard};
 use tac_status::Departure;
 use tac_wire::Door;
-use tac_worker::{CHUNK, Chunk, DeskCaller, OpenGate, Terms};
+use tac_worker::{CHUNK, Chunk, HallCaller, Terms};
 
 /// How many steps of one connection are made before others have theirs: 16 packets, each with its
 /// turn and its write, or fewer where more has to be read.
@@ -50,7 +50,7 @@ const SWEEP: u64 = 250;
 /// The connections of a worker, and who makes their calls.
 type Board<'a, R, J, D, L> = Switchboard<
     'a,
-    DeskCaller<'a, R, J, D>,
+    HallCaller<'a, R, J, D>,
     DeviceWitness<'a, R, L>,
     Socket<'a, TcpStream, R>,
 >;
@@ -104,14 +104,12 @@ where
 fn terms_by<'a, R: AllocGlobal, J: Run, D: Desk, L>(
     premises: &Premises<'a, R, J, D, L>,
     door: &'a Door,
-) -> Terms<'a, R, OpenGate>
+) -> Terms<'a>
     ensures { result.door.now ≡ door.now }
 {
     Terms {
-        rt: premises.rt,
         alloc: premises.rt.alloc(),
         door,
-        gate: &OpenGate,
     }
 }
 
@@ -121,7 +119,7 @@ fn terms_of<'a, R: AllocGlobal, J: Run, D: Desk, L>(
     premises: &Premises<'a, R, J, D, L>,
     peer: Peer,
     shown: Shown,
-) -> Option<(Terms<'a, R, OpenGate>, Option<Named>)>
+) -> Option<(Terms<'a>, Option<Named>)>
     ensures some { IfSome result (λ found. MayCall premises.now.settings.now.callers
         (socket_ip peer.address) peer.way found.0.door.now found.1) }
     ensures none { IfNone result (MayNotCall premises.now.settings.now.callers
@@ -183,7 +181,7 @@ where
             visits,
             at,
             acceptor,
-            board: Switchboard::new(alloc, DeskCaller::new(premises.rt, premises.desk, seat)),
+            board: Switchboard::new(alloc, HallCaller::new(premises.rt, premises.desk, seat)),
             leads: Slab::new(alloc),
             left: premises.settings.connections,
             busy: Vec::new(alloc),

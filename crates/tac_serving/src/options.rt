@@ -13,7 +13,7 @@ use tac_command_line::{
     PER_ADDRESS, PORT, PROXY, ROTATE_AT, SYNC, WORKERS, word_of,
 };
 use tac_desks::LiveDesk;
-use tac_forum::Limits;
+use tac_hall::Limits;
 use tac_keep::{Tray, Use};
 use tac_net::{Callers, ClearDoor, Directory, Idle, Settings};
 use tac_run::{Status, key_of, out_of_memory};

@@ -16,8 +16,7 @@ use Rattle.tac_stream.specs.declared.turn.Turn.{Turn}
 use Rattle.tac_stream.specs.declared.turn.Turn.TheVariants as turns
 use Rattle.tac_stream.specs.Turns.{packets_of}
 use Rattle.tac_worker.specs.declared.ahead.Ahead.{Ahead}
-use Rattle.tac_worker.specs.declared.worked.End.{End}
-use Rattle.tac_worker.specs.declared.worked.End.TheVariants.{WriteFault}
+use Rattle.tac_worker.specs.declared.end.End.{End}
 use Rattle.tac_worker.specs.declared.link.Link.TheInside.{Inside}
 use Rattle.tac_worker.specs.Ahead.{IsAhead, IsTurnOf, seen_by, ask_of, ask_ahead, IsSomeOfPassword, WaitsForIt}
 use Rattle.tac_worker.specs.Linked.{Linked, IsLinked, AsksPassword}
@@ -36,13 +35,12 @@ asks_called (exchange ∷ made) = ap (λ (l : List Ask). exchange.ask ∷ l) (as
 
 module _ {S V : Type 0} (refuses : S → Ask → HallFault → Type 0) (takes refuses_notice : V → Notice → V → Type 0) where
   -- with nothing found
-  pub kept_bare : (link : Inside S V) → link.ahead ≡ None → WaitsForIt link.digest link.ahead → (link.end ≡ Some WriteFault → ⊥) → IsLinked refuses takes refuses_notice link.end (connection_of link) link.stream → IsKept refuses takes refuses_notice link
-  kept_bare link none password whole linked = record {
+  pub kept_bare : (link : Inside S V) → link.ahead ≡ None → WaitsForIt link.digest link.ahead → IsLinked refuses takes refuses_notice link.end (connection_of link) link.stream → IsKept refuses takes refuses_notice link
+  kept_bare link none password linked = record {
     linked = subst (λ (ahead : Option Ahead). IsLinked refuses takes refuses_notice link.end (connection_of link) (seen_by ahead link.stream)) (sym none) linked;
     ahead = subst (λ (ahead : Option Ahead). IsAhead link.door.now ahead link.stream) (sym none) tt;
     due = λ rests. none;
     password = password;
-    whole = whole;
   }
 
   -- where nothing was found, it stands so by its stream
@@ -60,7 +58,6 @@ module _ {S V : Type 0} (refuses : S → Ask → HallFault → Type 0) (takes re
     ahead = ahead;
     due = λ rested. absurd (true≢false (sym rested ∙ still ∙ rests));
     password = password;
-    whole = λ e. kept.whole (sym end ∙ e);
   }
 
   -- what was found ahead is the first ask that wasn't called

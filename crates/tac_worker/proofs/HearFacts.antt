@@ -6,8 +6,8 @@ use Rattle.tac_wire.specs.declared.door.Door.{Door}
 use Rattle.tac_wire.specs.declared.frame.Frame.{Frame}
 use Rattle.tac_wire.specs.Stream.{Parts, Tail, open_end, fault, cut, continued}
 use Rattle.tac_stream.specs.declared.stream.Stream.{Stream}
-use Rattle.tac_worker.specs.declared.worked.End.{End}
-use Rattle.tac_worker.specs.declared.worked.End.TheVariants.{Finished, Memory, ReadFault}
+use Rattle.tac_worker.specs.declared.end.End.{End}
+use Rattle.tac_worker.specs.declared.end.End.TheVariants.{Finished, Memory, ReadFault}
 use Rattle.tac_worker.specs.Working.{Prolongs, HearsMore, Heard, Noted}
 
 -- after a header that is refused no packet comes; else the open end goes on

@@ -15,20 +15,19 @@ use Rattle.tac_stream.specs.Turns.{packets_of}
 use Rattle.tac_stream.specs.Kept.{IsReady, Stands}
 use Rattle.tac_worker.specs.declared.due.Due.{Due}
 use Rattle.tac_worker.specs.declared.due.Due.TheVariants as next
-use Rattle.tac_worker.specs.declared.worked.End.{End}
-use Rattle.tac_worker.specs.declared.worked.End.TheVariants.{Finished, ByProtocol, Stopped, LogFull, Memory, ReadFault, WriteFault, Unwitnessed, Held, NoSeat}
+use Rattle.tac_worker.specs.declared.end.End.{End}
+use Rattle.tac_worker.specs.declared.end.End.TheVariants.{Memory}
 use Rattle.tac_worker.specs.declared.turning.Went.{Went}
 use Rattle.tac_worker.specs.declared.turning.Went.TheVariants.{On, Rests}
 use Rattle.tac_worker.specs.Linked.{Linked, due_by, fresh, put, traffic_on, worker_at, IsOver, IsOpen, StandsSo, IsLinked, Turns, TurnsAt, after_sending}
 use Rattle.tac_worker.specs.Noting.{answered, IsNoted, NoneIsNoted, Noting, noting, NotesOne, NotesNone, RefusesNoted}
 use Rattle.tac_worker.specs.Served.{served}
 use Rattle.tac_worker.specs.Told.{notices, TakesUntil, Tells}
-use Rattle.tac_worker.specs.Worked.{Exchange, asks_of, answers_of, AreAllMade, Worker, Writes, IsServedBy}
+use Rattle.tac_worker.specs.Worked.{Exchange, asks_of, answers_of, AreAllMade, Worker, Traffic, Writes, IsServedBy}
 use Rattle.tac_worker.specs.Working.{IsAtRest, Heard, HearsMore, Turned, Serving}
 use Rattle.tac_worker.proofs.ServedFacts.{Done, done-after}
 use Rattle.tac_worker.proofs.TurnFacts.{worker, done_memory}
 use Rattle.tac_worker.proofs.NoteFacts.{noted_made, notes_none, all_made_as, turned_as}
-use Rattle.tac_worker.proofs.HallFacts.{served_as}
 use Rattle.tac_worker.proofs.WorkFacts.{traffic_of, serving_first, serving_on, serving_rests, serving_more, served_turn, served_read}
 
 -- ---- what is due
@@ -45,23 +44,22 @@ hear_due [] (Some end) rests e = absurd cc
 hear_due [] None true e = (refl, refl, refl)
 hear_due [] None false e = absurd cc
 
--- ---- whole replies
+-- ---- who served, and was told
 
-pub some_same : (a b : End) → Some a ≡ Some b → a ≡ b
-some_same a b e = cc
-
--- a read doesn't end as a write that failed
-pub heard_whole : (end : End) (before after : Option (List ℕ)) (was now : Stream) → Heard (Err end) before after was now → Some end ≡ Some WriteFault → ⊥
-heard_whole Finished before after was now h e = absurd cc
-heard_whole ByProtocol before after was now h e = absurd cc
-heard_whole Stopped before after was now h e = absurd cc
-heard_whole LogFull before after was now h e = absurd cc
-heard_whole Memory before after was now h e = absurd cc
-heard_whole ReadFault before after was now h e = absurd cc
-heard_whole WriteFault before after was now h e = h
-heard_whole Unwitnessed before after was now h e = absurd cc
-heard_whole Held before after was now h e = absurd cc
-heard_whole NoSeat before after was now h e = absurd cc
+module _ (end : End) (door : Door) (traffic : Traffic) where
+  -- of whoever made these exchanges and was told these notices more may be known
+  pub served_as : (makes others : List Exchange → Type 0) (refuses : Ask → HallFault → Type 0) (tells told : List Notice → Option Notice → Type 0) (work : IsServedBy end door makes refuses tells traffic) → others work.ends.made
+      → ((notices : List Notice) (refused : Option Notice) → tells notices refused → told notices refused)
+      → IsServedBy end door others refuses told traffic
+  served_as makes others refuses tells told work m t = record {
+    input = work.input;
+    read = work.read;
+    finished = work.finished;
+    memory = work.memory;
+    closing = work.closing;
+    ends = record { made = work.ends.made; makes = m; left = work.ends.left; asks = work.ends.asks; leaves = work.ends.leaves; writes = work.ends.writes };
+    told = record { told = work.told.told; left = work.told.left; parts = work.told.parts; takes = t _ _ work.told.takes; leaves = work.told.leaves; writes = work.told.writes };
+  }
 
 -- ---- what is put after what was sent
 

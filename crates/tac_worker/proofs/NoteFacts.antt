@@ -7,13 +7,12 @@ use Rattle.tac_conn.specs.declared.ask.Ask.{Ask}
 use Rattle.tac_audit.specs.declared.notice.Notice.{Notice}
 use Rattle.tac_hall.specs.declared.fault.HallFault.{HallFault}
 use Rattle.tac_stream.specs.declared.stream.Stream.{Stream}
-use Rattle.tac_worker.specs.declared.worked.End.{End}
-use Rattle.tac_worker.specs.declared.worked.End.TheVariants.{Finished, ByProtocol, Stopped, LogFull, Memory, ReadFault, WriteFault, Unwitnessed, Held, NoSeat}
+use Rattle.tac_worker.specs.declared.end.End.{End}
+use Rattle.tac_worker.specs.declared.end.End.TheVariants.{Finished, ByProtocol, Stopped, LogFull, Memory, ReadFault, Unwitnessed, NoSeat}
 use Rattle.tac_worker.specs.declared.turning.Went.{Went}
 use Rattle.tac_worker.specs.declared.turning.Went.TheVariants.{On, Rests}
-use Rattle.tac_worker.specs.Noting.{answered, IsNoted, Noting, NotesOne, NotesNone, RefusesNoted}
+use Rattle.tac_worker.specs.Noting.{answered, IsNoted, Noting, NotesNone}
 use Rattle.tac_worker.specs.Served.{Sending}
-use Rattle.tac_worker.specs.Told.{WritesTold}
 use Rattle.tac_worker.specs.Worked.{Exchange, AreMade, AreAllMade, Worker, Leaves, Writes}
 use Rattle.tac_worker.specs.Working.{Turned}
 
@@ -40,22 +39,8 @@ module _ (old new before after : Option (List ℕ)) (lift : (bytes : List ℕ) �
   writes_as LogFull door sendings answers w = lift _ w
   writes_as Memory door sendings answers w = record { first = w.first; others = w.others; parts = w.parts; carries = w.carries; written = lift _ w.written }
   writes_as ReadFault door sendings answers w = lift _ w
-  writes_as WriteFault door sendings answers w = record { first = w.first; others = w.others; parts = w.parts; some_left = w.some_left; written = lift _ w.written }
   writes_as Unwitnessed door sendings answers w = record { first = w.first; next = w.next; others = w.others; parts = w.parts; one = w.one; carries = w.carries; written = lift _ w.written }
-  writes_as Held door sendings answers w = lift _ w
   writes_as NoSeat door sendings answers w = lift _ w
-
-  told_as : (end : End) (door : Door) (told : List Notice) → WritesTold end door told old new → WritesTold end door told before after
-  told_as Finished door told w = lift _ w
-  told_as ByProtocol door told w = lift _ w
-  told_as Stopped door told w = lift _ w
-  told_as LogFull door told w = lift _ w
-  told_as Memory door told w = lift _ w
-  told_as ReadFault door told w = lift _ w
-  told_as WriteFault door told w = record { before = w.before; last = w.last; parts = w.parts; first = w.first; others = w.others; cuts = w.cuts; some_left = w.some_left; written = lift _ w.written }
-  told_as Unwitnessed door told w = lift _ w
-  told_as Held door told w = lift _ w
-  told_as NoSeat door told w = lift _ w
 
 -- ---- a turn, of whose caller less is known
 
@@ -112,15 +97,6 @@ module _ {S T V : Type 0} (step : S → Exchange → S → Type 0) (rests : S �
         parts = t.told.parts;
         takes = t.told.takes;
         leaves = t.told.leaves;
-        writes = told_as old new before after lift end door _ t.told.writes;
+        writes = lift _ t.told.writes;
       };
     }
-
--- of the notes nothing is known
-pub turned_unnoted : {S V : Type 0} (makes : S → Exchange → S → Type 0) (rests : S → S → Type 0) (refuses : S → Ask → HallFault → Type 0) (takes refuses_notice : V → Notice → V → Type 0)
-    (result : Result Went End) (door : Door) (bytes : List ℕ) (taken : ℕ) (was now : Worker (Noting S) V) (old new : Option (List ℕ)) (stream : Stream)
-    → Turned (NotesOne makes) (NotesNone rests) (RefusesNoted refuses) takes refuses_notice result door bytes taken was now old new stream
-    → Turned makes rests refuses takes refuses_notice result door bytes taken (record { caller = was.caller.caller; witness = was.witness }) (record { caller = now.caller.caller; witness = now.witness }) old new stream
-turned_unnoted {S} makes rests refuses takes refuses_notice result door bytes taken was now old new stream t =
-    turned_as (NotesOne makes) (NotesNone rests) (RefusesNoted refuses) makes rests refuses takes refuses_notice (λ (n : Noting S). n.caller) (λ was now exchange m. m.0) (λ was now m. m.0)
-    door bytes taken was now old new old new stream (λ written w. w) refl result t

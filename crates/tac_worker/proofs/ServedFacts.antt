@@ -18,12 +18,12 @@ use Rattle.tac_audit.specs.declared.notice.Notice.{Notice}
 use Rattle.tac_audit.specs.Notices.{notices_to, reply_told, replies_told}
 use Rattle.tac_audit.specs.Witness.{AreTold}
 use Rattle.tac_stream.specs.Turns.{packets_of}
-use Rattle.tac_worker.specs.declared.worked.End.{End}
-use Rattle.tac_worker.specs.declared.worked.End.TheVariants.{Finished, ByProtocol, Stopped, LogFull, Memory, ReadFault, WriteFault, Unwitnessed, Held, NoSeat}
+use Rattle.tac_worker.specs.declared.end.End.{End}
+use Rattle.tac_worker.specs.declared.end.End.TheVariants.{Finished, ByProtocol, Stopped, LogFull, Memory, ReadFault, Unwitnessed, NoSeat}
 use Rattle.tac_worker.specs.Served.{Sending, served_to, asks_in, bytes_sent, carried}
 use Rattle.tac_hall.specs.declared.fault.HallFault.{HallFault}
-use Rattle.tac_worker.specs.Told.{bytes_told, TakesUntil, WritesAllButLast, WritesTold, Tells}
-use Rattle.tac_worker.specs.Worked.{Exchange, asks_of, answers_of, AreMade, AreAllMade, Worker, WritesSome, WritesFirst, WritesBeginning, Writes, Ends}
+use Rattle.tac_worker.specs.Told.{bytes_told, TakesUntil, Tells}
+use Rattle.tac_worker.specs.Worked.{Exchange, asks_of, answers_of, AreMade, AreAllMade, Worker, WritesSome, WritesFirst, Writes, Ends}
 use Rattle.tac_worker.specs.Working.{Handled, GoesOn}
 
 -- ---- lists
@@ -201,16 +201,6 @@ module _ {S V : Type 0} (step : S → Exchange → S → Type 0) (takes : V → 
       written = rw (bytes_sent-append door g.sendings w.first) (Appends-trans old between new (bytes_sent door g.sendings) (bytes_sent door w.first) g.written w.written);
     }
 
-    beginning_after : WritesBeginning door after between new → WritesBeginning door all old new
-    beginning_after w = record {
-      first = bytes_sent door g.sendings ++ w.first;
-      others = w.others;
-      some_left = w.some_left;
-      parts = ap (bytes_sent door) whole ∙ bytes_sent-append door g.sendings after ∙ ap (λ (l : List ℕ). bytes_sent door g.sendings ++ l) w.parts
-          ∙ sym (append_assoc (bytes_sent door g.sendings) w.first w.others);
-      written = Appends-trans old between new (bytes_sent door g.sendings) w.first g.written w.written;
-    }
-
     writes_after : (end : End) → Writes end door after (answers_of others) between new → Writes end door all (answers_of (g.made ++ others)) old new
     writes_after Finished w = all_after w
     writes_after ByProtocol w = all_after w
@@ -218,9 +208,7 @@ module _ {S V : Type 0} (step : S → Exchange → S → Type 0) (takes : V → 
     writes_after LogFull w = all_after w
     writes_after Memory w = some_after w
     writes_after ReadFault w = all_after w
-    writes_after WriteFault w = beginning_after w
     writes_after Unwitnessed w = first_after w
-    writes_after Held w = all_after w
     writes_after NoSeat w = all_after w
 
   module _ (new : Option (List ℕ)) (told : List Notice) where
@@ -228,32 +216,6 @@ module _ {S V : Type 0} (step : S → Exchange → S → Type 0) (takes : V → 
     all_told : Appends between new (bytes_told door told) → Appends old new (bytes_told door (g.notices ++ told))
     all_told w =
         rw (bytes_after door earlier first g.made g.sendings g.notices g.handled told) (Appends-trans old between new (bytes_sent door g.sendings) (bytes_told door told) g.written w)
-
-    -- a beginning of the last one was
-    cut_told : WritesAllButLast door told between new → WritesAllButLast door (g.notices ++ told) old new
-    cut_told w = record {
-      before = g.notices ++ w.before;
-      last = w.last;
-      parts = ap (λ (l : List Notice). g.notices ++ l) w.parts ∙ sym (append_assoc g.notices w.before (w.last ∷ []));
-      first = w.first;
-      others = w.others;
-      cuts = w.cuts;
-      some_left = w.some_left;
-      written = rw (bytes_after door earlier first g.made g.sendings g.notices g.handled w.before, append_assoc (bytes_sent door g.sendings) (bytes_told door w.before) w.first)
-          (Appends-trans old between new (bytes_sent door g.sendings) (bytes_told door w.before ++ w.first) g.written w.written);
-    }
-
-    told_after : (end : End) → WritesTold end door told between new → WritesTold end door (g.notices ++ told) old new
-    told_after Finished w = all_told w
-    told_after ByProtocol w = all_told w
-    told_after Stopped w = all_told w
-    told_after LogFull w = all_told w
-    told_after Memory w = all_told w
-    told_after ReadFault w = all_told w
-    told_after WriteFault w = cut_told w
-    told_after Unwitnessed w = all_told w
-    told_after Held w = all_told w
-    told_after NoSeat w = all_told w
 
   module _ (rests : S → S → Type 0) (refuses : S → Ask → HallFault → Type 0) (refuses_notice : V → Notice → V → Type 0) (end : End) (second : List Frame) (now : Worker S V) (new : Option (List ℕ)) where
     -- the others end the connection
@@ -282,7 +244,7 @@ module _ {S V : Type 0} (step : S → Exchange → S → Type 0) (takes : V → 
           ∙ sym (append_assoc g.notices t.told t.left);
       takes = (t.takes.0, are_told-then takes g.notices t.told was.witness mid.witness t.takes.0 g.told t.takes.1, t.takes.2);
       leaves = t.leaves;
-      writes = told_after new t.told end t.writes;
+      writes = all_told new t.told t.writes;
     }
 
     pub done-after : (tail : Tail) → Done step rests refuses takes refuses_notice door end (packets_of door first ++ earlier) second tail mid now between new

@@ -1,5 +1,5 @@
 -- What one turn of a worker does.
-use Rattle.std.proofs.Common.{◌≡◌, ℕ, suc, List, [], ◌∷◌, ◌++◌, length, ◌<◌, ◌≤◌, take, drop, Bool, true, false, not, ◌||◌, Option, Some, None, Result, Ok, Err, IsErrAnd, if◌then◌else◌, inl, inr, refl, sym, ap, subst, ◌∙◌, append_assoc, append-nil, length-append, length-drop, arith}
+use Rattle.std.proofs.Common.{◌≡◌, ℕ, suc, List, [], ◌∷◌, ◌++◌, length, ◌<◌, ◌≤◌, take, drop, Bool, true, false, not, ◌||◌, Option, Some, None, Result, Ok, Err, IsErrAnd, if◌then◌else◌, inl, inr, refl, sym, ap, subst, ◌∙◌, append_assoc, append-nil, length-drop, arith}
 use Rattle.std.proofs.lemmas.List.{take-append-drop}
 use Rattle.std.specs.Io.KnownBytes.{Appends}
 use Rattle.std.proofs.KnownBytes.{Appends-nil}
@@ -30,14 +30,14 @@ use Rattle.tac_stream.specs.declared.stream.Stream.{Stream}
 use Rattle.tac_stream.specs.declared.turn.Turn.TheVariants as turns
 use Rattle.tac_stream.specs.Turns.{packets_of, closed_by, tail_turn, IsTurn}
 use Rattle.tac_stream.specs.Kept.{Stands, closed_of, pending_of}
-use Rattle.tac_worker.specs.declared.worked.End.{End}
-use Rattle.tac_worker.specs.declared.worked.End.TheVariants.{Finished, ByProtocol, Stopped, LogFull, Memory, ReadFault, WriteFault, Unwitnessed, Held, NoSeat}
+use Rattle.tac_worker.specs.declared.end.End.{End}
+use Rattle.tac_worker.specs.declared.end.End.TheVariants.{Finished, ByProtocol, Stopped, LogFull, Memory, ReadFault, Unwitnessed, NoSeat}
 use Rattle.tac_worker.specs.declared.turning.Went.{Went}
 use Rattle.tac_worker.specs.declared.turning.Went.TheVariants.{On, Rests}
 use Rattle.tac_worker.specs.Served.{Sending, plain, carrying, served_for, asked_by, served_to, asks_in, closes, bytes_sent, carried}
-use Rattle.tac_worker.specs.Told.{bytes_told, LeavesUntold, refused_of, WritesTold}
+use Rattle.tac_worker.specs.Told.{bytes_told, LeavesUntold, refused_of}
 use Rattle.tac_worker.specs.Worked.{Exchange, asks_of, answers_of, AreMade, AreAllMade, Worker, Leaves, Closes, Writes}
-use Rattle.tac_worker.specs.Working.{Handled, GoesOn, IsUncalled, Puts, Replies, Answers, Notes, taken_of, left_of, Turned}
+use Rattle.tac_worker.specs.Working.{Handled, GoesOn, IsUncalled, Replies, Answers, Notes, taken_of, left_of, Turned}
 use Rattle.tac_worker.proofs.ServedFacts.{packets_of-append, Done}
 
 -- ---- the outcome of a packet, by its step
@@ -255,9 +255,9 @@ module _ {S V : Type 0} (step : S → Exchange → S → Type 0) (rests : S → 
   pub done_none : (end : End) (was now : S) (seen sees : V) (told : List Notice) (old new : Option (List ℕ)) → rests was now → asks_in door earlier frames ≡ [] → served_to door earlier frames [] ≡ []
       → notices_to door earlier frames tail [] ≡ told → AreTold takes seen told sees → bytes_told door told ≡ [] → Appends old new []
       → Leaves end (refuses now) [] → (Appends old new [] → Writes end door [] [] old new)
-      → refused_of end [] ≡ None → LeavesUntold end [] → (Appends old new (bytes_told door told) → WritesTold end door told old new)
+      → refused_of end [] ≡ None → LeavesUntold end []
       → IsDone end was seen now sees old new
-  done_none end was now seen sees told old new rested none nothing these took silent written leaves writes unrefused untold writes_told = record {
+  done_none end was now seen sees told old new rested none nothing these took silent written leaves writes unrefused untold = record {
     ends = record {
       made = [];
       makes = (was, refl, rested);
@@ -272,7 +272,7 @@ module _ {S V : Type 0} (step : S → Exchange → S → Type 0) (rests : S → 
       parts = these ∙ sym (append-nil told);
       takes = rw unrefused (sees, took, refl);
       leaves = untold;
-      writes = writes_told (rw silent written);
+      writes = rw silent written;
     };
   }
 
@@ -280,23 +280,21 @@ module _ {S V : Type 0} (step : S → Exchange → S → Type 0) (rests : S → 
   module _ (ask : Ask) (later : List Ask) (was now : S) (seen : V) (old : Option (List ℕ)) (rested : rests was now) (first : asks_in door earlier frames ≡ ask ∷ later)
       (nothing : served_to door earlier frames [] ≡ []) (none : notices_to door earlier frames tail [] ≡ []) where
     uncalled : (end : End) → Leaves end (refuses now) (ask ∷ later) → (Appends old old [] → Writes end door [] [] old old)
-        → refused_of end [] ≡ None → LeavesUntold end [] → (Appends old old [] → WritesTold end door [] old old) → IsDone end was seen now seen old old
-    uncalled end leaves writes unrefused untold writes_told = record {
+        → refused_of end [] ≡ None → LeavesUntold end [] → IsDone end was seen now seen old old
+    uncalled end leaves writes unrefused untold = record {
       ends = record { made = []; makes = (was, refl, rested); left = ask ∷ later; asks = first; leaves = leaves; writes = rw nothing (writes (Appends-nil old)) };
-      told = record { told = []; left = []; parts = none; takes = rw unrefused (seen, refl, refl); leaves = untold; writes = writes_told (Appends-nil old) };
+      told = record { told = []; left = []; parts = none; takes = rw unrefused (seen, refl, refl); leaves = untold; writes = Appends-nil old };
     }
 
     pub done_uncalled : (end : End) → IsUncalled (refuses now) ask end → IsDone end was seen now seen old old
     done_uncalled Finished u = absurd u
     done_uncalled ByProtocol u = absurd u
-    done_uncalled Stopped u = uncalled Stopped u (λ w. w) refl refl (λ w. w)
-    done_uncalled LogFull u = uncalled LogFull u (λ w. w) refl refl (λ w. w)
+    done_uncalled Stopped u = uncalled Stopped u (λ w. w) refl refl
+    done_uncalled LogFull u = uncalled LogFull u (λ w. w) refl refl
     done_uncalled Memory u = done_memory was now seen old rested
     done_uncalled ReadFault u = absurd u
-    done_uncalled WriteFault u = absurd u
     done_uncalled Unwitnessed u = absurd u
-    done_uncalled Held u = uncalled Held (omega arith) (λ w. w) refl refl (λ w. w)
-    done_uncalled NoSeat u = uncalled NoSeat u (λ w. w) refl refl (λ w. w)
+    done_uncalled NoSeat u = uncalled NoSeat u (λ w. w) refl refl
 
   -- the witness refused the next notice
   pub done_unwitnessed : (made : List Exchange) (next others : List Sending) (left : List Ask) (notice : Notice) (later : List Notice) (was now : S) (seen sees : V) (old new : Option (List ℕ)) → AreAllMade step rests was made now
@@ -323,9 +321,7 @@ module _ (refuses : Ask → HallFault → Type 0) (ask : Ask) where
   uncalled_unfinished LogFull u e = cc
   uncalled_unfinished Memory u e = cc
   uncalled_unfinished ReadFault u e = u
-  uncalled_unfinished WriteFault u e = u
   uncalled_unfinished Unwitnessed u e = u
-  uncalled_unfinished Held u e = cc
   uncalled_unfinished NoSeat u e = cc
 
   uncalled_closing : (end : End) (closing : Bool) → IsUncalled refuses ask end → Closes end closing
@@ -335,9 +331,7 @@ module _ (refuses : Ask → HallFault → Type 0) (ask : Ask) where
   uncalled_closing LogFull closing u = tt
   uncalled_closing Memory closing u = tt
   uncalled_closing ReadFault closing u = absurd u
-  uncalled_closing WriteFault closing u = tt
   uncalled_closing Unwitnessed closing u = tt
-  uncalled_closing Held closing u = tt
   uncalled_closing NoSeat closing u = tt
 
 -- ---- one packet that is told, and written
@@ -358,36 +352,8 @@ noted P (Err Stopped) takes refuses closing n on shut untold = absurd n
 noted P (Err LogFull) takes refuses closing n on shut untold = absurd n
 noted P (Err Memory) takes refuses closing n on shut untold = absurd n
 noted P (Err ReadFault) takes refuses closing n on shut untold = absurd n
-noted P (Err WriteFault) takes refuses closing n on shut untold = absurd n
 noted P (Err Unwitnessed) takes refuses closing n on shut untold = untold n
-noted P (Err Held) takes refuses closing n on shut untold = absurd n
 noted P (Err NoSeat) takes refuses closing n on shut untold = absurd n
-
--- a packet that wasn't put there whole is a reply that wasn't
-pub put_cut : (fails : Type 0) (end : End) (packet : List ℕ) (closing : Bool) (old new : Option (List ℕ)) → Puts fails (Err end) packet old new → Replies (Err end) packet closing old new
-put_cut fails Finished packet closing old new p = absurd p
-put_cut fails ByProtocol packet closing old new p = absurd p
-put_cut fails Stopped packet closing old new p = absurd p
-put_cut fails LogFull packet closing old new p = absurd p
-put_cut fails Memory packet closing old new p = absurd p
-put_cut fails ReadFault packet closing old new p = absurd p
-put_cut fails WriteFault packet closing old new p = (p.1, p.2, p.3, p.4, p.5)
-put_cut fails Unwitnessed packet closing old new p = absurd p
-put_cut fails Held packet closing old new p = absurd p
-put_cut fails NoSeat packet closing old new p = absurd p
-
--- that only happens where it may
-pub put_fails : (fails : Type 0) (end : End) (packet : List ℕ) (old new : Option (List ℕ)) → Puts fails (Err end) packet old new → fails
-put_fails fails Finished packet old new p = absurd p
-put_fails fails ByProtocol packet old new p = absurd p
-put_fails fails Stopped packet old new p = absurd p
-put_fails fails LogFull packet old new p = absurd p
-put_fails fails Memory packet old new p = absurd p
-put_fails fails ReadFault packet old new p = absurd p
-put_fails fails WriteFault packet old new p = p.0
-put_fails fails Unwitnessed packet old new p = absurd p
-put_fails fails Held packet old new p = absurd p
-put_fails fails NoSeat packet old new p = absurd p
 
 -- the notice was taken, and then the reply was written
 pub answered : (result : Result Went End) (takes refuses : Type 0) (reply : List ℕ) (closing : Bool) (old new : Option (List ℕ)) → takes → Replies result reply closing old new → Answers result takes refuses reply closing old new
@@ -398,9 +364,7 @@ answered (Err Stopped) takes refuses reply closing old new t r = absurd r
 answered (Err LogFull) takes refuses reply closing old new t r = absurd r
 answered (Err Memory) takes refuses reply closing old new t r = absurd r
 answered (Err ReadFault) takes refuses reply closing old new t r = absurd r
-answered (Err WriteFault) takes refuses reply closing old new t r = (t, r)
 answered (Err Unwitnessed) takes refuses reply closing old new t r = absurd r
-answered (Err Held) takes refuses reply closing old new t r = absurd r
 answered (Err NoSeat) takes refuses reply closing old new t r = absurd r
 
 module _ {S V : Type 0} (step : S → Exchange → S → Type 0) (rests : S → S → Type 0) (rests_so : (x : S) → rests x x) (refuses : S → Ask → HallFault → Type 0) (takes refuses_notice : V → Notice → V → Type 0)
@@ -442,34 +406,6 @@ module _ {S V : Type 0} (step : S → Exchange → S → Type 0) (rests : S → 
 
     bytes_whole : bytes_told door (notice ∷ []) ≡ sent door sending.packet
     bytes_whole = s.bytes ∙ append-nil (sent door sending.packet)
-
-    -- a beginning of it was written
-    done_cut : takes seen notice sees → (first others : List ℕ) → sent door sending.packet ≡ first ++ others → 0 < length others → Appends old new first
-        → IsDone step rests refuses takes refuses_notice door earlier (frame ∷ more) tail WriteFault was seen now sees old new
-    done_cut took first others parts some written = record {
-      ends = record {
-        made = made;
-        makes = (now, had, rests_so now);
-        left = to_ask;
-        asks = asks_whole;
-        leaves = tt;
-        writes = record {
-          first = first;
-          others = others ++ bytes_sent door later;
-          some_left = omega (arith, some, length-append others (bytes_sent door later));
-          parts = ap (bytes_sent door) whole ∙ ap (λ (l : List ℕ). l ++ bytes_sent door later) parts ∙ append_assoc first others (bytes_sent door later);
-          written = written;
-        };
-      };
-      told = record {
-        told = notice ∷ [];
-        left = to_tell;
-        parts = tells_whole;
-        takes = (sees, (sees, took, refl), refl);
-        leaves = tt;
-        writes = record { before = []; last = notice; parts = refl; first = first; others = others; cuts = bytes_whole ∙ parts; some_left = some; written = written };
-      };
-    }
 
     -- the witness refused it
     done_refused : refuses_notice seen notice sees → Appends old new [] → IsDone step rests refuses takes refuses_notice door earlier (frame ∷ more) tail Unwitnessed was seen now sees old new
@@ -545,13 +481,6 @@ module _ {S V : Type 0} (step : S → Exchange → S → Type 0) (rests : S → 
           told = d.told;
         }
 
-    said_cut : (ends : Bool) → IsSaid door (packets_of door (take taken (cut door bytes).packets)) frame made sending notice ends → takes seen notice sees → (first others : List ℕ) → sent door sending.packet ≡ first ++ others → 0 < length others
-        → Appends old new first → Turns (Err WriteFault) was seen now sees old new stream
-    said_cut ends s took first others parts some written =
-        let d = ends_now (frame ∷ more) WriteFault was now seen sees old new left
-        (done_cut step rests rests_so refuses takes refuses_notice door _ frame made sending notice was now seen sees old new had more (cut door bytes).tail ends s took first others parts some written) in
-        record { unfinished = λ e. cc; memory = λ e. absurd cc; closing = tt; ends = d.ends; told = d.told }
-
     unsaid : (ends : Bool) → IsSaid door (packets_of door (take taken (cut door bytes).packets)) frame made sending notice ends → refuses_notice seen notice sees → Appends old new []
         → Turns (Err Unwitnessed) was seen now sees old new stream
     unsaid ends s refused written =
@@ -570,9 +499,7 @@ module _ {S V : Type 0} (step : S → Exchange → S → Type 0) (rests : S → 
     replied_to (Err LogFull) ends s r closed free stands = absurd r.1
     replied_to (Err Memory) ends s r closed free stands = absurd r.1
     replied_to (Err ReadFault) ends s r closed free stands = absurd r.1
-    replied_to (Err WriteFault) ends s r closed free stands = said_cut ends s r.0 r.1.0 r.1.1 r.1.2 r.1.3 r.1.4
     replied_to (Err Unwitnessed) ends s r closed free stands = unsaid ends s r.0 r.1
-    replied_to (Err Held) ends s r closed free stands = absurd r.1
     replied_to (Err NoSeat) ends s r closed free stands = absurd r.1
 
   -- a reply is sent
@@ -652,7 +579,7 @@ module _ {S V : Type 0} (step : S → Exchange → S → Type 0) (rests : S → 
       let d = ends_now (f.frame ∷ f.more) ByProtocol was was seen sees old old f.left
       (done_none step rests refuses takes refuses_notice door _ (f.frame ∷ f.more) (cut door bytes).tail ByProtocol was was seen sees (unreplied (clear door f.frame) ∷ []) old old (rests_so was)
       (asks_first door _ f.frame f.more ∙ rw f.serves refl) (served_first door _ f.frame f.more [] ∙ rw f.serves refl) (notices_first door _ f.frame f.more (cut door bytes).tail [] ∙ rw f.serves refl)
-      (sees, rw f.same at took, refl) refl (Appends-nil old) refl (λ w. w) refl refl (λ w. w)) in
+      (sees, rw f.same at took, refl) refl (Appends-nil old) refl (λ w. w) refl refl) in
       record {
         unfinished = λ e. cc;
         memory = λ e. absurd cc;
@@ -720,7 +647,7 @@ module _ {S V : Type 0} (step : S → Exchange → S → Type 0) (rests : S → 
   closes_tail was seen sees old stream header b took =
       let d = ends_now [] ByProtocol was was seen sees old old b.left
       (done_none step rests refuses takes refuses_notice door _ [] (cut door bytes).tail ByProtocol was was seen sees (notices.BadHeader header ∷ []) old old (rests_so was)
-      (asks_at_end door _) (served_at_end door _ []) (notices_at_end door _ (cut door bytes).tail [] ∙ b.notice) (sees, took, refl) refl (Appends-nil old) refl (λ w. w) refl refl (λ w. w)) in
+      (asks_at_end door _) (served_at_end door _ []) (notices_at_end door _ (cut door bytes).tail [] ∙ b.notice) (sees, took, refl) refl (Appends-nil old) refl (λ w. w) refl refl) in
       record {
         unfinished = λ e. cc;
         memory = λ e. absurd cc;

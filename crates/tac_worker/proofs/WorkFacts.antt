@@ -14,10 +14,10 @@ use Rattle.tac_stream.specs.declared.stream.Stream.{Stream}
 use Rattle.tac_stream.specs.Turns.{packets_of, closed_by}
 use Rattle.tac_stream.specs.Kept.{IsReady, Stands}
 use Rattle.tac_hall.specs.declared.fault.HallFault.{HallFault}
-use Rattle.tac_worker.specs.declared.worked.End.{End}
-use Rattle.tac_worker.specs.declared.worked.End.TheVariants.{Finished, ByProtocol, Stopped, LogFull, Memory, ReadFault, WriteFault, Unwitnessed, Held, NoSeat}
+use Rattle.tac_worker.specs.declared.end.End.{End}
+use Rattle.tac_worker.specs.declared.end.End.TheVariants.{Finished, ByProtocol, Stopped, LogFull, Memory, ReadFault, Unwitnessed, NoSeat}
 use Rattle.tac_worker.specs.Served.{closes}
-use Rattle.tac_worker.specs.Told.{TakesUntil, LeavesUntold, refused_of, WritesTold}
+use Rattle.tac_worker.specs.Told.{TakesUntil, LeavesUntold, refused_of}
 use Rattle.tac_worker.specs.Worked.{Exchange, AreAllMade, Worker, Traffic, Leaves, Closes, Writes, IsServedBy}
 use Rattle.tac_worker.specs.Working.{GoesOn, TakesOne, IsAtRest, EndsAt, HearsMore, Heard, Serving}
 use Rattle.tac_worker.proofs.ServedFacts.{packets_of-append, goes_none, goes-then, Done, done-after}
@@ -142,12 +142,12 @@ module _ {S V : Type 0} (step : S → Exchange → S → Type 0) (rests : S → 
       -- nothing was left to do
       served_whole : (end : End) (left : Option (List ℕ)) → Consumes after left [] → (end ≡ Finished → IsAtEnd left) → (end ≡ Memory → ⊥) → Closes end false
           → Leaves end (refuses next.caller) [] → (Appends new new [] → Writes end door [] [] new new)
-          → refused_of end [] ≡ None → LeavesUntold end [] → (Appends new new [] → WritesTold end door [] new new)
+          → refused_of end [] ≡ None → LeavesUntold end []
           → Serves end door was next (traffic_of before left old new)
-      served_whole end left read finished enough closing leaves writes unrefused untold writes_told =
+      served_whole end left read finished enough closing leaves writes unrefused untold =
           let rest : Done step rests refuses takes refuses_notice door end (packets_of door (take s.taken (cut door s.input).packets) ++ []) [] (cut door s.input).tail next next new new =
           done_none step rests refuses takes refuses_notice door _ [] (cut door s.input).tail end next.caller next.caller next.witness next.witness [] new new (rests_so next.caller)
-          (asks_at_end door _) (served_at_end door _ []) (none_at_end door _ (cut door s.input).tail [] r.tail) refl refl (Appends-nil new) leaves writes unrefused untold writes_told in
+          (asks_at_end door _) (served_at_end door _ []) (none_at_end door _ (cut door s.input).tail [] r.tail) refl refl (Appends-nil new) leaves writes unrefused untold in
           let all =
           subst (λ (fs : List Frame). Done step rests refuses takes refuses_notice door end [] fs (cut door s.input).tail was next old new) (append-nil (take s.taken (cut door s.input).packets) ∙ sym all_taken)
           (done-after step takes door [] (take s.taken (cut door s.input).packets) was next old new rested_so rests refuses refuses_notice end [] next new (cut door s.input).tail rest) in
@@ -163,7 +163,7 @@ module _ {S V : Type 0} (step : S → Exchange → S → Type 0) (rests : S → 
 
       -- the connection ends at a read
       pub served_read : (end : End) (left : Option (List ℕ)) (then : Stream) → Heard (Err end) after left rested then → Serves end door was next (traffic_of before left old new)
-      served_read Finished left then h = served_whole Finished left h.0 (λ e. h.1) (λ e. cc) refl refl (λ w. w) refl refl (λ w. w)
+      served_read Finished left then h = served_whole Finished left h.0 (λ e. h.1) (λ e. cc) refl refl (λ w. w) refl refl
       served_read ByProtocol left then h = absurd h
       served_read Stopped left then h = absurd h
       served_read LogFull left then h = absurd h
@@ -184,8 +184,6 @@ module _ {S V : Type 0} (step : S → Exchange → S → Type 0) (rests : S → 
             ends = all.ends;
             told = all.told;
           }
-      served_read ReadFault left then h = served_whole ReadFault left h (λ e. absurd cc) (λ e. cc) refl refl (λ w. w) refl refl (λ w. w)
-      served_read WriteFault left then h = absurd h
+      served_read ReadFault left then h = served_whole ReadFault left h (λ e. absurd cc) (λ e. cc) refl refl (λ w. w) refl refl
       served_read Unwitnessed left then h = absurd h
-      served_read Held left then h = absurd h
       served_read NoSeat left then h = absurd h

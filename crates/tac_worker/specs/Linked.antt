@@ -14,8 +14,8 @@ use Rattle.tac_hall.specs.declared.fault.HallFault.{HallFault}
 use Rattle.tac_stream.specs.declared.stream.Stream.{Stream}
 use Rattle.tac_worker.specs.declared.due.Due.{Due}
 use Rattle.tac_worker.specs.declared.due.Due.TheVariants as next
-use Rattle.tac_worker.specs.declared.worked.End.{End}
-use Rattle.tac_worker.specs.declared.worked.End.TheVariants.{Finished}
+use Rattle.tac_worker.specs.declared.end.End.{End}
+use Rattle.tac_worker.specs.declared.end.End.TheVariants.{Finished}
 use Rattle.tac_worker.specs.Noting.{answered, IsNoted, NoneIsNoted}
 use Rattle.tac_worker.specs.Served.{served, asks}
 use Rattle.tac_worker.specs.Told.{notices, bytes_told, TakesUntil}
@@ -110,7 +110,7 @@ worker_at called witness = record { caller = called; witness = witness }
 -- whose caller is refused asks so, and whose witness takes notices so, and refuses them so
 module _ {S V : Type 0} (refuses : S → Ask → HallFault → Type 0)
     (takes refuses_notice : V → Notice → V → Type 0) where
-  -- it ended so: `serve` says the same of a reader of these bytes
+  -- it ended so
   abbrev pub IsOver : Linked S V → End → Type 0
   IsOver link end =
       IsServedBy end link.door (λ made. link.called ≡ map answered made) (refuses link.caller)

@@ -1,10 +1,9 @@
 -- What the fields of a link stand for.
-use Rattle.std.specs.Prelude.{◌≡◌, true, Some, None}
+use Rattle.std.specs.Prelude.{◌≡◌, true, None}
 use Rattle.tac_conn.specs.declared.ask.Ask.{Ask}
 use Rattle.tac_audit.specs.declared.notice.Notice.{Notice}
 use Rattle.tac_hall.specs.declared.fault.HallFault.{HallFault}
 use Rattle.tac_worker.specs.declared.link.Link.TheInside.{Inside}
-use Rattle.tac_worker.specs.declared.worked.End.TheVariants.{WriteFault}
 use Rattle.tac_worker.specs.Ahead.{WaitsForIt, IsAhead, seen_by}
 use Rattle.tac_worker.specs.Linked.{Linked, IsLinked}
 
@@ -31,5 +30,3 @@ module _ {S V : Type 0} where
     pub ahead : IsAhead link.door.now link.ahead link.stream
     pub due : link.rests ≡ true → link.ahead ≡ None
     pub password : WaitsForIt link.digest link.ahead
-    -- what waits never fails to take a reply
-    pub whole : link.end ≡ Some WriteFault → ⊥

@@ -13,8 +13,8 @@ use Rattle.tac_conn.specs.Reply.{packet_of}
 use Rattle.tac_audit.specs.declared.notice.Notice.{Notice}
 use Rattle.tac_audit.specs.Notices.{notices_to, replies_told}
 use Rattle.tac_audit.specs.Witness.{AreTold}
-use Rattle.tac_worker.specs.declared.worked.End.{End}
-use Rattle.tac_worker.specs.declared.worked.End.TheVariants.{Memory, WriteFault, Unwitnessed}
+use Rattle.tac_worker.specs.declared.end.End.{End}
+use Rattle.tac_worker.specs.declared.end.End.TheVariants.{Memory, Unwitnessed}
 use Rattle.tac_worker.specs.Served.{served_to}
 
 -- ---- of a stream
@@ -49,11 +49,10 @@ abbrev pub TakesUntil : {V T : Type 0} → (V → T → V → Type 0) → (V →
 TakesUntil {V} takes refuses was told refused now =
     (mid : V) × AreTold takes was told mid × RefusesOne refuses mid refused now
 
--- the notices that are left where a connection ends so: none, unless memory ran out, the writer
--- failed, or the first of them was refused
+-- the notices that are left where a connection ends so: none, unless memory ran out, or the first
+-- of them was refused
 abbrev pub LeavesUntold : End → List Notice → Type 0
 LeavesUntold Memory left = Unit {0}
-LeavesUntold WriteFault left = Unit {0}
 LeavesUntold Unwitnessed left = 0 < length left
 LeavesUntold end left = left ≡ []
 
@@ -64,24 +63,6 @@ refused_of end left = None
 
 -- ---- before its replies were written
 
--- the bytes of the replies in these notices were written, but of the last reply a beginning, not
--- all
-pub record WritesAllButLast (door : Door) (told : List Notice) (old new : Option (List ℕ))
-    : Type 0 where
-  pub before : List Notice
-  pub last : Notice
-  pub parts : told ≡ before ++ last ∷ []
-  pub first : List ℕ
-  pub others : List ℕ
-  pub cuts : bytes_told door (last ∷ []) ≡ first ++ others
-  pub some_left : 0 < length others
-  pub written : Appends old new (bytes_told door before ++ first)
-
--- exactly the bytes of the replies in these notices, unless the writer failed
-abbrev pub WritesTold : End → Door → List Notice → Option (List ℕ) → Option (List ℕ) → Type 0
-WritesTold WriteFault door told old new = WritesAllButLast door told old new
-WritesTold end door told old new = Appends old new (bytes_told door told)
-
 -- of what there is to tell the first notices were told, and the replies in them were written.
 -- `are_told` says which notices the witness took, and which one it refused then
 pub record Tells (end : End) (door : Door) (to_tell : List Notice)
@@ -91,4 +72,4 @@ pub record Tells (end : End) (door : Door) (to_tell : List Notice)
   pub parts : to_tell ≡ told ++ left
   pub takes : are_told told (refused_of end left)
   pub leaves : LeavesUntold end left
-  pub writes : WritesTold end door told old new
+  pub writes : Appends old new (bytes_told door told)

@@ -1,7 +1,6 @@
--- What a worker has done that served one connection by calls, at a hall or at a desk that many
--- share.
+-- What a worker has done that served one connection by calls at a hall.
 use Rattle.std.specs.Prelude.{◌≡◌, ◌<◌, ◌≤◌, ℕ, List, [], ◌∷◌, ◌++◌, map, length}
-use Rattle.std.specs.Prelude.{Bool, true, false, Option, None}
+use Rattle.std.specs.Prelude.{Bool, true, false, Option}
 use Rattle.std.specs.Io.KnownBytes.{Appends, Consumes, IsAtEnd}
 use Rattle.tac_wire.specs.declared.door.Door.{Door}
 use Rattle.tac_conn.specs.declared.ask.Answer.{Answer}
@@ -9,15 +8,14 @@ use Rattle.tac_conn.specs.declared.ask.Ask.{Ask}
 use Rattle.tac_audit.specs.declared.notice.Notice.{Notice}
 use Rattle.tac_hall.specs.declared.call.Call.TheVariants as calls
 use Rattle.tac_hall.specs.declared.call.CallAnswer.TheVariants as answers
-use Rattle.tac_hall.specs.declared.entry.Made.{Made}
-use Rattle.tac_hall.specs.declared.entry.Receipt.{Receipt}
+use Rattle.tac_hall.specs.View.{Made}
+use Rattle.tac_hall.specs.declared.receipt.Receipt.{Receipt}
 use Rattle.tac_hall.specs.declared.fault.HallFault.{HallFault}
 use Rattle.tac_hall.specs.declared.fault.HallFault.TheVariants as refusals
-use Rattle.tac_worker.specs.declared.worked.End.{End}
-use Rattle.tac_worker.specs.declared.worked.End.TheVariants.{Finished, ByProtocol, Stopped, LogFull}
-use Rattle.tac_worker.specs.declared.worked.End.TheVariants.{Memory, ReadFault, WriteFault}
-use Rattle.tac_worker.specs.declared.worked.End.TheVariants.{Unwitnessed, Held, NoSeat}
-use Rattle.tac_hall.specs.Seat.{Sitting, IsRefused}
+use Rattle.tac_worker.specs.declared.end.End.{End}
+use Rattle.tac_worker.specs.declared.end.End.TheVariants.{Finished, ByProtocol, Stopped, LogFull}
+use Rattle.tac_worker.specs.declared.end.End.TheVariants.{Memory, ReadFault}
+use Rattle.tac_worker.specs.declared.end.End.TheVariants.{Unwitnessed, NoSeat}
 use Rattle.tac_worker.specs.Served.{Sending, served, asks, closes, bytes_sent, carried}
 use Rattle.tac_worker.specs.Told.{notices, Tells}
 
@@ -74,20 +72,6 @@ pub record Worker (S V : Type 0) : Type 0 where
   pub caller : S
   pub witness : V
 
--- ---- at a hall, with receipts
-
--- a seat that calls, and the receipts that it got
-pub record Calling : Type 0 where
-  pub seat : Sitting
-  pub receipts : List Receipt
-
--- these calls were made, one after another, and no others: the view and the receipts have them
--- after what they had
-pub record Makes (was now : Calling) (made : List Exchange) : Type 0 where
-  pub number : now.seat.number ≡ was.seat.number
-  pub view : now.seat.view ≡ was.seat.view ++ map in_view made
-  pub receipts : now.receipts ≡ was.receipts ++ map (receipt_for was.seat.number) made
-
 -- ---- what it read and wrote
 
 -- what was left to read before and after, and what stood written before and after, where it is
@@ -118,20 +102,10 @@ pub record WritesFirst (door : Door) (sendings : List Sending) (answers : List A
   pub carries : carried (first ++ next) ≡ answers
   pub written : Appends old new (bytes_sent door first)
 
--- a beginning of the bytes of these, and not all
-pub record WritesBeginning (door : Door) (sendings : List Sending) (old new : Option (List ℕ))
-    : Type 0 where
-  pub first : List ℕ
-  pub others : List ℕ
-  pub parts : bytes_sent door sendings ≡ first ++ others
-  pub some_left : 0 < length others
-  pub written : Appends old new first
-
--- all bytes of these, unless memory ran out, the writer failed, or the witness refused a notice
+-- all bytes of these, unless memory ran out, or the witness refused a notice
 abbrev pub Writes : End → Door → List Sending → List Answer → Option (List ℕ) → Option (List ℕ)
     → Type 0
 Writes Memory door sendings answers old new = WritesSome door sendings answers old new
-Writes WriteFault door sendings answers old new = WritesBeginning door sendings old new
 Writes Unwitnessed door sendings answers old new = WritesFirst door sendings answers old new
 Writes end door sendings answers old new = Appends old new (bytes_sent door sendings)
 
@@ -144,28 +118,19 @@ end_by refusals.Memory = Memory
 end_by refusals.Closed = Stopped
 end_by refusals.NoSeat = NoSeat
 
--- whether who served takes another connection after one that ended so
-abbrev pub goes_on : End → Bool
-goes_on Stopped = false
-goes_on Held = false
-goes_on NoSeat = false
-goes_on end = true
-
 -- the first of these asks was refused so
 abbrev pub IsFirstRefused : HallFault → (Ask → HallFault → Type 0) → List Ask → Type 0
 IsFirstRefused fault refuses [] = ⊥
 IsFirstRefused fault refuses (ask ∷ left) = refuses ask fault
 
 -- the asks that are left without a call: none, where nothing kept the caller from calling; some,
--- where its next call wasn't made, because the gate held it or it was refused so
+-- where its next call was refused so
 abbrev pub Leaves : End → (Ask → HallFault → Type 0) → List Ask → Type 0
 Leaves Finished refuses left = left ≡ []
 Leaves ByProtocol refuses left = left ≡ []
 Leaves ReadFault refuses left = left ≡ []
 Leaves Memory refuses left = Unit {0}
-Leaves WriteFault refuses left = Unit {0}
 Leaves Unwitnessed refuses left = Unit {0}
-Leaves Held refuses left = 0 < length left
 Leaves Stopped refuses left = IsFirstRefused refusals.Closed refuses left
 Leaves LogFull refuses left = IsFirstRefused refusals.LogFull refuses left
 Leaves NoSeat refuses left = IsFirstRefused refusals.NoSeat refuses left
@@ -203,12 +168,3 @@ pub record IsServedBy (end : End) (door : Door) (are_made : List Exchange → Ty
       traffic.old traffic.new
   pub told : Tells end door (notices door input (answers_of ends.made)) are_told
       traffic.old traffic.new
-
--- by calls of this seat at a hall, with their receipts. No notice was refused, so it doesn't end as
--- Unwitnessed
-abbrev pub IsServed : End → Door → Calling → Calling → Option (List ℕ) → Option (List ℕ)
-    → Option (List ℕ) → Option (List ℕ) → Type 0
-IsServed end door was now before after old new =
-    IsServedBy end door (Makes was now)
-    (λ ask fault. IsRefused now.seat (calls.Ask ask) fault) (λ told refused. refused ≡ None)
-    (record { before = before; after = after; old = old; new = new })

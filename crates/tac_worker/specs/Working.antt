@@ -18,10 +18,10 @@ use Rattle.tac_audit.specs.Notices.{notices_to}
 use Rattle.tac_audit.specs.Witness.{AreTold}
 use Rattle.tac_hall.specs.declared.fault.HallFault.{HallFault}
 use Rattle.tac_hall.specs.declared.fault.HallFault.TheVariants as refusals
-use Rattle.tac_worker.specs.declared.worked.End.{End}
-use Rattle.tac_worker.specs.declared.worked.End.TheVariants.{Finished, ByProtocol, Stopped, LogFull}
-use Rattle.tac_worker.specs.declared.worked.End.TheVariants.{Memory, ReadFault, WriteFault, Held}
-use Rattle.tac_worker.specs.declared.worked.End.TheVariants.{Unwitnessed, NoSeat}
+use Rattle.tac_worker.specs.declared.end.End.{End}
+use Rattle.tac_worker.specs.declared.end.End.TheVariants.{Finished, ByProtocol, Stopped, LogFull}
+use Rattle.tac_worker.specs.declared.end.End.TheVariants.{Memory, ReadFault}
+use Rattle.tac_worker.specs.declared.end.End.TheVariants.{Unwitnessed, NoSeat}
 use Rattle.tac_worker.specs.declared.turning.Went.{Went}
 use Rattle.tac_worker.specs.declared.turning.Went.TheVariants.{On, Rests}
 use Rattle.tac_worker.specs.Served.{Sending, served_to, asks_in, closes}
@@ -67,36 +67,22 @@ abbrev pub IsUnmade : (Ask → HallFault → Type 0) → Ask → HallFault → T
 IsUnmade refuses ask refusals.Memory = Unit {0}
 IsUnmade refuses ask fault = refuses ask fault
 
--- at these ends no call of it was made: the gate held it, memory ran out, or it was refused so
+-- at these ends no call of it was made: memory ran out, or it was refused so
 abbrev pub IsUncalled : (Ask → HallFault → Type 0) → Ask → End → Type 0
 IsUncalled refuses ask Finished = ⊥
 IsUncalled refuses ask ByProtocol = ⊥
 IsUncalled refuses ask ReadFault = ⊥
-IsUncalled refuses ask WriteFault = ⊥
 IsUncalled refuses ask Unwitnessed = ⊥
 IsUncalled refuses ask Memory = Unit {0}
-IsUncalled refuses ask Held = Unit {0}
 IsUncalled refuses ask Stopped = refuses ask refusals.Closed
 IsUncalled refuses ask LogFull = refuses ask refusals.LogFull
 IsUncalled refuses ask NoSeat = refuses ask refusals.NoSeat
-
--- a packet was put there; or, where that may fail, a beginning of it was, and not all
-abbrev pub Puts : Type 0 → Result (Unit {0}) End → List ℕ → Option (List ℕ) → Option (List ℕ)
-    → Type 0
-Puts fails (Ok _) packet old new = Appends old new packet
-Puts fails (Err WriteFault) packet old new =
-    fails × (first others : List ℕ) × (packet ≡ first ++ others) × (0 < length others)
-    × Appends old new first
-Puts fails (Err end) packet old new = ⊥
 
 -- a packet was written, after which the connection closes or not
 abbrev pub Replies : Result Went End → List ℕ → Bool → Option (List ℕ) → Option (List ℕ) → Type 0
 Replies (Ok On) reply closing old new = (closing ≡ false) × Appends old new reply
 Replies (Ok Rests) reply closing old new = ⊥
 Replies (Err ByProtocol) reply closing old new = (closing ≡ true) × Appends old new reply
-Replies (Err WriteFault) reply closing old new =
-    (first others : List ℕ) × (reply ≡ first ++ others) × (0 < length others)
-    × Appends old new first
 Replies (Err end) reply closing old new = ⊥
 
 -- the witness took the notice of a packet, and then that packet's reply was written; or it refused

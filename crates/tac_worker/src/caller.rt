@@ -6,15 +6,14 @@ ghost use Rattle.tac_conn.specs.Ask.{kind_of_ask, kind_of_answer};
 ghost use Rattle.tac_hall.specs.declared.call.Call.TheVariants as calls;
 ghost use Rattle.tac_hall.specs.declared.call.CallAnswer.TheVariants as answers;
 ghost use Rattle.tac_hall.specs.declared.fault.HallFault.{HallFault};
-ghost use Rattle.tac_hall.specs.History.{IsOfKind};
+ghost use Rattle.tac_hall.specs.Calls.{IsOfKind};
 ghost use Rattle.tac_worker.specs.Worked.{Exchange};
 ghost use Rattle.tac_worker.specs.Working.{IsUnmade};
 
-use tac_conn::{Answer, Ask, Hash, Spare};
-use tac_hall::{CallAnswer, HallFault, Receipt};
+use tac_conn::{Answer, Ask, Hash};
+use tac_hall::{HallFault, Receipt};
 
-/// Who makes the calls of a connection, one after another: a seat of a hall, or of a desk that many
-/// share.
+/// Who makes the calls of a connection, one after another: a seat of a hall.
 pub trait Caller: Drop {
     /// The caller made this exchange, and nothing else, and is this one then.
     ghost makes: { Self → Exchange → Self → Type 0 };
@@ -55,15 +54,4 @@ pub(crate) fn answer_in(receipt: Receipt) -> Answer
         unreachable!()
     };
     answer
-}
-
-/// One like the answer in the receipt of an ask, in room that was taken before.
-pub(crate) fn answer_like(receipt: &Receipt, spare: Spare) -> Answer
-    requires { (ask : Ask) × IsOfKind (calls.Ask ask) receipt.now.answer }
-    ensures { receipt.now.answer ≡ answers.Ask result }
-{
-    match &receipt.answer {
-        CallAnswer::Ask(answer) => answer.copy_into(spare),
-        _ => unreachable!(),
-    }
 }

@@ -1,27 +1,25 @@
 //! A seat of a hall that makes the calls of a connection.
 
-ghost use Rattle.std.specs.Prelude.{◌≡◌, refl, IfOk, IfErr, OnErr};
-ghost use Rattle.tac_hall.specs.Seat.{IsMade};
-ghost use Rattle.tac_hall.specs.declared.call.Call.TheVariants as calls;
+ghost use Rattle.std.specs.Prelude.{◌≡◌};
+ghost use Rattle.tac_hall.specs.Seat.{CatchesUp};
 ghost use Rattle.tac_worker.specs.AtHall as at_hall;
 
 use crate::caller::{Caller, answer_in};
-use std::alloc::Global;
 use std::marker::Model;
 use std::sync::Wait;
-use tac_conn::{Answer, Ask};
+use tac_conn::{Answer, Ask, Hash};
 use tac_desk::Desk;
-use tac_hall::{Call, Hall, HallFault, Receipt, Seat};
+use tac_hall::{Call, Hall, HallFault, Run, Seat};
 
 /// A seat that makes its calls at a hall. A contract sees the seat.
-pub struct HallCaller<'a, H: Wait, D: Desk> {
+pub struct HallCaller<'a, H: Wait, J: Run, D: Desk> {
     rt: &'a H,
-    hall: &'a Hall<D>,
-    seat: Seat,
+    hall: &'a Hall<J, D>,
+    seat: Seat<J>,
 }
 
 // By hand, so that a proof of an owner has one call at each exit, not a drop of each field.
-impl<'a, H: Wait, D: Desk> Drop for HallCaller<'a, H, D> {
+impl<'a, H: Wait, J: Run, D: Desk> Drop for HallCaller<'a, H, J, D> {
     fn drop(self) {
         let HallCaller {
             rt: _,
@@ -31,28 +29,23 @@ impl<'a, H: Wait, D: Desk> Drop for HallCaller<'a, H, D> {
     }
 }
 
-impl<'a, H: Wait, D: Desk> Model for HallCaller<'a, H, D> {
-    ghost use Rattle.tac_hall.specs.Seat.{Sitting};
+impl<'a, H: Wait, J: Run, D: Desk> Model for HallCaller<'a, H, J, D> {
+    ghost use Rattle.tac_hall.specs.Seat.{Seated};
 
-    ghost Value = { Sitting };
+    ghost Value = { Seated };
 
     ghost view = { λ caller. caller.seat };
 }
 
-impl<'a, H: Wait, D: Desk> HallCaller<'a, H, D> {
-    pub fn new(rt: &'a H, hall: &'a Hall<D>, seat: Seat) -> HallCaller<'a, H, D>
+impl<'a, H: Wait, J: Run, D: Desk> HallCaller<'a, H, J, D> {
+    pub fn new(rt: &'a H, hall: &'a Hall<J, D>, seat: Seat<J>) -> HallCaller<'a, H, J, D>
         ensures { result ≡ seat }
     {
         HallCaller { rt, hall, seat }
     }
 
-    /// Where the seat takes its memory.
-    pub(crate) fn alloc(&self) -> Global {
-        self.seat.alloc()
-    }
-
     /// The seat, once the connection has ended.
-    pub fn into_seat(self) -> Seat
+    pub fn into_seat(self) -> Seat<J>
         ensures { result ≡ self.entry }
     {
         let HallCaller {
@@ -62,24 +55,14 @@ impl<'a, H: Wait, D: Desk> HallCaller<'a, H, D> {
         } = self;
         seat
     }
-
-    /// Calls an ask, and answers its receipt.
-    pub(crate) fn call(&mut self, ask: Ask) -> Result<Receipt, HallFault>
-        ensures made { IfOk result (λ receipt.
-            IsMade self.old (calls.Ask ask) receipt self.new) }
-        ensures refused { IfErr result (at_hall.Refuses self.old ask) }
-        ensures err { OnErr result (at_hall.Rests self.old self.new) }
-    {
-        self.hall.call(self.rt, &mut self.seat, Call::Ask(ask))
-    }
 }
 
-impl<'a, H: Wait, D: Desk> Caller for HallCaller<'a, H, D> {
-    ghost makes = { at_hall.MakesOne };
+impl<'a, H: Wait, J: Run, D: Desk> Caller for HallCaller<'a, H, J, D> {
+    ghost makes = { at_hall.MakesOne J.opening };
 
-    ghost rests = { at_hall.Rests };
+    ghost rests = { CatchesUp };
 
-    ghost refuses = { at_hall.Refuses };
+    ghost refuses = { at_hall.Refuses J.opening };
 
     fn number(&self) -> u32
         ensures { result ≡ self.now.number }
@@ -88,9 +71,13 @@ impl<'a, H: Wait, D: Desk> Caller for HallCaller<'a, H, D> {
     }
 
     fn ask(&mut self, ask: Ask) -> Result<Answer, HallFault> {
-        let receipt = self.call(ask)?;
+        let receipt = self.hall.call(self.rt, &mut self.seat, &Call::Ask(ask))?;
         Ok(answer_in(receipt))
     }
 
-    ghost rests_so = { λ _. refl };
+    fn hash(&self, ask: &Ask) -> Option<Hash> {
+        self.hall.hash(self.rt, ask)
+    }
+
+    ghost rests_so = { at_hall.rests_so };
 }

@@ -2,8 +2,8 @@
 
 ghost use Rattle.tac_worker.specs.Working.{Heard, Noted};
 
+use crate::end::End;
 use crate::notes::Pieces;
-use crate::worked::End;
 use std::io::Read;
 use tac_io::read_piece;
 use tac_stream::Stream;

@@ -5,19 +5,17 @@ ghost use Rattle.std.specs.Io.KnownBytes.{Appends, Keeps};
 ghost use Rattle.tac_worker.specs.Ahead.{IsSomeOfPassword, WaitsForIt, ask_ahead, waits};
 ghost use Rattle.tac_worker.specs.Linked as linked;
 ghost use Rattle.tac_worker.specs.declared.due.Due.TheVariants as dues;
-ghost use Rattle.tac_worker.specs.declared.worked.End.TheVariants.{WriteFault};
 
 use crate::ahead::{Ahead, adopt, first_turn, hash_ahead, look_ahead, password_ahead};
 use crate::caller::Caller;
 use crate::due::Due;
-use crate::gate::Gate;
+use crate::end::End;
 use crate::hash_work::HashWork;
 use crate::hearing::{Chunk, hear};
 use crate::notes::{Called, Pieces, Sent};
 use crate::queue::Queue;
 use crate::terms::Terms;
 use crate::turning::{Went, serve_turn};
-use crate::worked::End;
 use std::alloc::{AllocError, Global};
 use std::io::{self, Read, Write};
 use std::marker::Model;
@@ -128,7 +126,7 @@ impl<'a, C: Caller, V: Witness<Notice>> Model for Link<'a, C, V> {
 
 impl<'a, C: Caller, V: Witness<Notice>> Link<'a, C, V> {
     /// A connection on which nothing came, which has the door of these terms.
-    pub fn new<H, G>(terms: &Terms<'a, H, G>, witness: V, caller: &C) -> Link<'a, C, V>
+    pub fn new(terms: &Terms<'a>, witness: V, caller: &C) -> Link<'a, C, V>
         ensures { result ≡ linked.fresh terms.now.door.now witness caller.now }
     {
         Link {
@@ -166,11 +164,10 @@ impl<'a, C: Caller, V: Witness<Notice>> Link<'a, C, V> {
     /// The calls for it are the first asks of the bytes that came. What was put on it, which is
     /// what was sent and then what waits, is what is sent by their answers. Its witness took the
     /// notices of that. Once it has ended this is all, or as much as the end allows. Before, it is
-    /// so up to some packet, and so it stays where the connection is given up. It never ends as
-    /// WriteFault: a reply that the witness took is put there whole.
+    /// so up to some packet, and so it stays where the connection is given up. A reply that the
+    /// witness took is put there whole.
     pub fn end(&self) -> Option<End>
         ensures end { result ≡ self.now.end }
-        ensures whole { result ≡ Some WriteFault → ⊥ }
         ensures stands { linked.StandsSo C.refuses V.takes V.refuses result self.now }
     {
         self.end
@@ -239,14 +236,13 @@ impl<'a, C: Caller, V: Witness<Notice>> Link<'a, C, V> {
     }
 
     /// If a turn is due, serves the next packet if it has come whole: has the caller ask, tells the
-    /// witness, and puts the reply there to be sent, as [`serve`](crate::serve) does. Else it does
-    /// nothing.
+    /// witness, and puts the reply there to be sent. Else it does nothing.
     ///
     /// The room for a reply is taken before the call. Where memory for it is refused, the
     /// connection ends as Memory and nothing was called. The door is that of the terms by which the
-    /// connection was made. It may wait for the caller, the witness and the gate, and for nobody at
-    /// the other end. Linear in the packet, but for what the caller and the witness take.
-    pub fn turn<H, G: Gate>(&mut self, terms: &Terms<H, G>, caller: &mut C)
+    /// connection was made. It may wait for the caller and the witness, and for nobody at the other
+    /// end. Linear in the packet, but for what the caller and the witness take.
+    pub fn turn(&mut self, terms: &Terms, caller: &mut C)
         ensures { linked.TurnsAt C.makes C.rests (linked.due_of self.old) self.old self.new
             caller.old caller.new }
     {
@@ -255,10 +251,8 @@ impl<'a, C: Caller, V: Witness<Notice>> Link<'a, C, V> {
             _ => return,
         }
         let terms = Terms {
-            rt: terms.rt,
             alloc: terms.alloc,
             door: self.door,
-            gate: terms.gate,
         };
         self.digest = Digest::Unknown;
         let turn = first_turn(self.door, &mut self.stream, &mut self.ahead);

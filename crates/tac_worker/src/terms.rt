@@ -3,12 +3,10 @@
 use std::alloc::Global;
 use tac_wire::Door;
 
-/// What all connections of a worker share: what it waits by, where it takes its memory, the door
-/// by which packets come and go, and its gate.
+/// What all connections of a worker share: where it takes its memory, and the door by which packets
+/// come and go.
 #[derive(Drop)]
-pub struct Terms<'a, H, G> {
-    pub rt: &'a H,
+pub struct Terms<'a> {
     pub alloc: Global,
     pub door: &'a Door,
-    pub gate: &'a G,
 }

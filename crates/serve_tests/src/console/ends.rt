@@ -11,7 +11,7 @@ fn by_the_end_of_the_input(rt: HostRuntime) -> Result<(), Fail> {
         calls 1 next 9999 room 99 whole: - = Ok(()) Some(Closed)
 
         calls 0 next 9999 room 99 whole: - = Ok(()) Some(LogFull)
-        hall 1 LogFull
+        refused 13 LogFull
 
         calls 2 next 9999 room 99 whole: - = Ok(()) Some(Closed)
         > shadow~
@@ -20,7 +20,7 @@ fn by_the_end_of_the_input(rt: HostRuntime) -> Result<(), Fail> {
         calls 1 next 9999 room 99 whole: - = Ok(()) Some(LogFull)
         > shadow~
         none
-        hall 1 LogFull
+        refused 13 LogFull
 
         calls 2 next 9999 room 99 whole: - = Ok(()) Some(Closed)
         > 
@@ -47,14 +47,14 @@ fn by_the_end_of_the_input(rt: HostRuntime) -> Result<(), Fail> {
         > begin
         ok
         > shadow
-        hall 3 Closed
+        refused 14 Closed
         > rotate
-        hall 3 Closed
+        refused 14 Closed
         > commit
-        hall 3 Closed
+        refused 14 Closed
         > commit
         refused 1 BadEdit
-        hall 3 Closed
+        refused 14 Closed
         ",
     )
 }

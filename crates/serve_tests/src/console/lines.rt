@@ -22,7 +22,7 @@ fn a_full_log(rt: HostRuntime) -> Result<(), Fail> {
         > drop group ops 7
         refused 7 BadIndex
         > policy
-        hall 1 LogFull
+        refused 13 LogFull
         > hello
         refused 1 BadEdit
         > begin
@@ -30,23 +30,23 @@ fn a_full_log(rt: HostRuntime) -> Result<(), Fail> {
         > add group net
         kept 1
         > policy
-        hall 1 LogFull
+        refused 13 LogFull
         > begin
         refused 1 BadEdit
         > commit
-        hall 1 LogFull
+        refused 13 LogFull
         > commit
         refused 1 BadEdit
         > reload devices
         no devices
         > reload
         refused 12 Memory
-        hall 1 LogFull
+        refused 13 LogFull
 
         calls 0 next 9999 room 9999 whole: - = Ok(()) Some(LogFull)
         > shadow
-        hall 1 LogFull
-        hall 1 LogFull
+        refused 13 LogFull
+        refused 13 LogFull
 
         calls 2 next 9999 room 9999 whole: - = Ok(()) Some(Closed)
         > rotate
@@ -56,7 +56,7 @@ fn a_full_log(rt: HostRuntime) -> Result<(), Fail> {
         > drop group ops 7
         refused 7 BadIndex
         > shadow
-        hall 1 LogFull
+        refused 13 LogFull
         > begin
         ok
         > add group net
@@ -112,8 +112,8 @@ fn segments_that_begin_by_themselves(rt: HostRuntime) -> Result<(), Fail> {
         > shadow
         none
         > shadow
-        hall 1 LogFull
-        hall 1 LogFull
+        refused 13 LogFull
+        refused 13 LogFull
         ",
     )
 }

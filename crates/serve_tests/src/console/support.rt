@@ -1,4 +1,4 @@
-//! What the tests share: conversations at the console of a shared desk.
+//! What the tests share: conversations at the console of a hall.
 
 ghost use Rattle.std.specs.Prelude.{◌≡◌};
 
@@ -13,8 +13,7 @@ use std::sync::Wait;
 use std::test::Fail;
 use tac_audit::{Typing, Typist, Witness};
 use tac_desk::Desk;
-use tac_forum::{EmptyHistory, Limits, Run, Seat, SharedDesk};
-use tac_hall::{Call, HallFault};
+use tac_hall::{Call, EmptyHistory, Hall, HallFault, Limits, Run, Seat};
 use tac_hall_console::{OperatorFault, Source, Unread, no_devices, operate};
 use tac_journal::Typists;
 
@@ -59,11 +58,11 @@ struct Course<'a> {
 // How a console ended, and why a call of another seat is refused after that.
 type Ended = (Result<(), OperatorFault>, Option<HallFault>);
 
-// A console of a shared desk, whose other seat makes a Stop after it, and before it too if it is to
+// A console of a hall, whose other seat makes a Stop after it, and before it too if it is to
 // be stopped. Its seat comes back beside that.
 fn operates_at<J: Run, D: Desk, V: Witness<Typing>, I: Read, O: Write, R: Wait + AllocGlobal>(
     rt: &R,
-    desk: &SharedDesk<J, D>,
+    desk: &Hall<J, D>,
     is_stopped: bool,
     other: &mut Seat<J>,
     witness: &mut V,
@@ -92,7 +91,7 @@ fn operates_of<J: Run, D: Desk, V: Witness<Typing>, I: Read, O: Write, R: Wait +
     requires roll { history ≡ J.roll }
     requires opening { record { meaning = D.meaning desk; limits = course.limits } ≡ J.opening }
 {
-    let desk: SharedDesk<J, D> = SharedDesk::new(history, desk, course.limits);
+    let desk: Hall<J, D> = Hall::new(history, desk, course.limits);
     let mut seats = Vec::with_capacity(rt.alloc(), 2)?;
     let mut other = desk.seat(rt)?;
     let is_stopped = course.is_stopped;
@@ -229,7 +228,7 @@ fn talks<R: Wait + AllocGlobal>(rt: &R, head: &str, talk: &str) -> Result<(), Fa
     Ok(())
 }
 
-/// Holds conversations, each at the console of a new shared desk at which bob may show things. A
+/// Holds conversations, each at the console of a new hall at which bob may show things. A
 /// paragraph is one. Its first line is
 ///
 ///     calls CALLS next CALLS room BYTES MANNER: LINE = END AFTER

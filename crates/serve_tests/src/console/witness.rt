@@ -57,8 +57,8 @@ fn each_line_before_its_answer(rt: HostRuntime) -> Result<(), Fail> {
     )
 }
 
-// Nor is it told of the Stop: the first `hall 1 LogFull` is the answer of a line, and the second is the
-// Stop's.
+// Nor is it told of the Stop: the first `refused 13 LogFull` is the answer of a line, and the second
+// is the Stop's.
 #[test]
 fn nothing_of_the_end_nor_of_half_a_line(rt: HostRuntime) -> Result<(), Fail> {
     converses(
@@ -75,12 +75,12 @@ fn nothing_of_the_end_nor_of_half_a_line(rt: HostRuntime) -> Result<(), Fail> {
 
         calls 0 next 9999 room 9999 whole: nothing of this = Ok(()) Some(LogFull)
         > shadow
-        * shadow [hall 1 LogFull
+        * shadow [refused 13 LogFull
         ]
-        hall 1 LogFull
+        refused 13 LogFull
         > quit~
         * quit []
-        hall 1 LogFull
+        refused 13 LogFull
         ",
     )
 }
@@ -139,7 +139,7 @@ fn before_a_write_that_fails(rt: HostRuntime) -> Result<(), Fail> {
         calls 0 next 9999 room 3 whole: nothing of this = Err(WriteFault) Some(LogFull)
         > quit
         * quit []
-        hal~
+        ref~
         ",
     )
 }

@@ -1,61 +1,25 @@
-//! A desk that many threads call and that keeps no calls, as one that conversations are held with; and
-//! calls of three threads at once.
+//! Conversations with a new hall, and calls of three threads at once.
 
 ghost use Rattle.std.specs.Prelude.{◌≡◌};
 
-use crate::hall::support::{
-    Called, OPS, closes, converses, desk_of, seats_of, show_version, talks,
-};
+use crate::hall::support::{OPS, closes, converses, desk_of, seats_of, show_version, talks};
 use std::marker::Brand;
 use std::sync::Wait;
 use std::test::Fail;
 use std::thread::{Threads, map_vec};
 use tac_desk::Desk;
-use tac_forum::{EmptyHistory, Limits, Run, Seat, SharedDesk};
-use tac_hall::{Call, HallFault, Receipt, Segment};
+use tac_hall::{EmptyHistory, Hall, Limits, Run, Seat};
 
 /// No log of these tests takes nearly so many calls, so that no segment begins by itself.
 pub(crate) const NEVER: usize = 9_999;
 
-impl<J: Run, D: Desk> Called for SharedDesk<J, D> {
-    type Seat = Seat<J>;
-
-    fn sit<R: Wait>(&self, rt: &R) -> Result<Seat<J>, HallFault> {
-        self.seat(rt)
-    }
-
-    fn make<R: Wait>(&self, rt: &R, seat: &mut Seat<J>, call: Call) -> Result<Receipt, HallFault> {
-        self.call(rt, seat, &call)
-    }
-
-    fn turn<R: Wait>(
-        &self,
-        rt: &R,
-        seat: &mut Seat<J>,
-        _segments: &mut Vec<Segment>,
-        _words: &str,
-        shown: &mut String,
-    ) -> Result<(), Fail> {
-        match self.rotate(rt, seat) {
-            Ok(rotated) => Ok(write!(shown, "{} of {}", rotated.number, rotated.entries)?),
-            Err(fault) => Ok(write!(shown, "{fault}")?),
-        }
-    }
-
-    fn end(self, seats: Vec<Seat<J>>) -> Result<(), (SharedDesk<J, D>, Vec<Seat<J>>)> {
-        match self.close(seats) {
-            Ok(_) => Ok(()),
-            Err(back) => Err(back),
-        }
-    }
-}
-
-/// A conversation, and the limits of the desk at which it is. They are one value, since no run is
-/// picked at a call that is handed a text.
+/// A conversation, the limits of the hall at which it is, and which segment is the last then, with the
+/// count of its calls. They are one value, since no run is picked at a call that is handed a text.
 #[derive(Clone, Copy)]
 pub(crate) struct Talk {
     pub(crate) limits: Limits,
     pub(crate) lines: &'static str,
+    pub(crate) last: (u64, usize),
 }
 
 fn holds<J: Run, D: Desk, R: Wait + AllocGlobal>(
@@ -67,11 +31,11 @@ fn holds<J: Run, D: Desk, R: Wait + AllocGlobal>(
     requires roll { history ≡ J.roll }
     requires opening { record { meaning = D.meaning desk; limits = talk.limits } ≡ J.opening }
 {
-    let desk: SharedDesk<J, D> = SharedDesk::new(history, desk, talk.limits);
-    converses(rt, desk, talk.lines)
+    let hall: Hall<J, D> = Hall::new(history, desk, talk.limits);
+    converses(rt, hall, talk.lines, talk.last)
 }
 
-/// A conversation with a new shared desk.
+/// A conversation with a new hall.
 pub(crate) fn shares<D: Desk, R: Wait + AllocGlobal>(
     rt: &R,
     desk: D,
@@ -84,13 +48,13 @@ pub(crate) fn shares<D: Desk, R: Wait + AllocGlobal>(
 // A seat that has asked so often.
 fn asked<J: Run, D: Desk, R: Wait + AllocGlobal>(
     rt: &R,
-    desk: &SharedDesk<J, D>,
+    hall: &Hall<J, D>,
     mut seat: Seat<J>,
     asks: usize,
 ) -> Seat<J> {
     for _ in 0..asks {
         if let Ok(call) = show_version(rt.alloc()) {
-            let _ = desk.call(rt, &mut seat, &call);
+            let _ = hall.call(rt, &mut seat, &call);
         }
     }
     seat
@@ -106,18 +70,18 @@ fn asks_at_once<J: Run + Send + Sync, D: Desk + Send, R: Threads + Wait + Sync +
     requires roll { history ≡ J.roll }
     requires opening { record { meaning = D.meaning desk; limits = talk.limits } ≡ J.opening }
 {
-    let desk: SharedDesk<J, D> = SharedDesk::new(history, desk, talk.limits);
-    let seats = seats_of(rt, &desk, 3)?;
+    let hall: Hall<J, D> = Hall::new(history, desk, talk.limits);
+    let seats = seats_of(rt, &hall, 3)?;
     let mut seats = map_vec(
         rt,
         seats,
         &|seat| {
             let asks = if seat.number() == 0 { 50_000 } else { 25_000 };
-            asked(rt, &desk, seat, asks)
+            asked(rt, &hall, seat, asks)
         },
     )?;
-    talks(rt, &desk, seats.as_mut_slice(), talk.lines)?;
-    closes(desk, seats)
+    talks(rt, &hall, seats.as_mut_slice(), talk.lines)?;
+    closes(hall, seats)
 }
 
 fn asks_all<D: Desk + Send, R: Threads + Wait + Sync + AllocGlobal>(
@@ -145,6 +109,7 @@ fn a_history_of_100_000_calls(rt: HostRuntime) -> Result<(), Fail> {
         1 rotate = 3 of 1700
         0 stop = 4:0 stopped
         ",
+            last: (4, 1),
         },
     )
 }

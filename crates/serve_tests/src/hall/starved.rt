@@ -1,5 +1,4 @@
-//! A desk that has no memory for edits, for copies of its records, nor for a record, and once it
-//! was asked, none for a copy of all that it represents.
+//! A desk that has no memory for edits, for copies of its records, nor for a record.
 
 ghost use Rattle.std.specs.Prelude.{◌≡◌, []};
 
@@ -16,7 +15,6 @@ use tac_desks::{BuildFault, PlainDesk};
 #[derive(Drop)]
 pub(crate) struct Starved {
     inner: PlainDesk,
-    asked: bool,
 }
 
 impl Model for Starved {
@@ -35,10 +33,7 @@ impl Model for Starved {
 impl Starved {
     pub(crate) fn new(alloc: Global, policy: Policy) -> Result<Starved, BuildFault> {
         let inner = PlainDesk::new(alloc, policy, 9)?;
-        Ok(Starved {
-            inner,
-            asked: false,
-        })
+        Ok(Starved { inner })
     }
 }
 
@@ -46,7 +41,6 @@ impl Desk for Starved {
     ghost meaning = { λ desk. desk };
 
     fn ask(&mut self, ask: &Ask) -> Result<Answer, AllocError> {
-        self.asked = true;
         match ask {
             Ask::Authenticate { .. } | Ask::Authorise { .. } | Ask::Serve { .. } => {
                 self.inner.ask(ask)
@@ -75,10 +69,6 @@ impl Desk for Starved {
     }
 
     fn state(&self) -> Result<State, AllocError> {
-        if self.asked {
-            Err(AllocError)
-        } else {
-            self.inner.state()
-        }
+        self.inner.state()
     }
 }

@@ -1,4 +1,4 @@
-//! What the tests share: conversations with a hall or with a shared desk.
+//! What the tests share: conversations with a hall.
 
 use basics::{Bytes, Sequence};
 use pol_edit::{Edit, read_edit};
@@ -9,7 +9,7 @@ use std::test::Fail;
 use tac_conn::{Answer, Ask, Proof, Service, Typed};
 use tac_desk::{Desk, Query};
 use tac_desks::PlainDesk;
-use tac_hall::{Call, CallAnswer, Hall, HallFault, Receipt, Seat, Segment, joins};
+use tac_hall::{Call, CallAnswer, Hall, HallFault, Receipt, Run, Seat};
 use tac_request::{AcctKind, Record};
 
 /// A policy under which bob may show things.
@@ -115,136 +115,31 @@ fn show(out: &mut String, told: &Result<Receipt, HallFault>) -> Result<(), Alloc
     }
 }
 
-/// Who is called: a hall, or a shared desk.
-pub(crate) trait Called: Drop {
-    /// Who calls.
-    type Seat: Drop;
-
-    /// A new seat.
-    fn sit<R: Wait>(&self, rt: &R) -> Result<Self::Seat, HallFault>;
-
-    /// Makes a call.
-    fn make<R: Wait>(
-        &self,
-        rt: &R,
-        seat: &mut Self::Seat,
-        call: Call,
-    ) -> Result<Receipt, HallFault>;
-
-    /// Rotates the log, or what else is no call, and shows its result. Segments that are taken out are
-    /// added to the others.
-    fn turn<R: Wait>(
-        &self,
-        rt: &R,
-        seat: &mut Self::Seat,
-        segments: &mut Vec<Segment>,
-        words: &str,
-        shown: &mut String,
-    ) -> Result<(), Fail>;
-
-    /// Ends it with these seats; else it comes back with them.
-    fn end(self, seats: Vec<Self::Seat>) -> Result<(), (Self, Vec<Self::Seat>)>;
-}
-
-// The segment that was taken out so many others before.
-fn segment_at<'a>(segments: &'a [Segment], words: &str) -> Result<&'a Segment, Fail> {
-    Ok(
-        segments
-            .get(words.parse::<usize>()?)
-            .ok_or("no such segment")?,
-    )
-}
-
-// Whether the second of these two segments follows the first.
-fn are_joined(segments: &[Segment], words: &str) -> Result<bool, Fail> {
-    let (first, second) = word(words);
-    let first = segment_at(segments, first)?;
-    Ok(joins(first, segment_at(segments, second)?))
-}
-
-// Rotates the log of a hall.
-fn rotates<D: Desk, R: Wait>(
-    rt: &R,
-    hall: &Hall<D>,
-    seat: &mut Seat,
-    segments: &mut Vec<Segment>,
-    shown: &mut String,
-) -> Result<(), AllocError> {
-    match hall.rotate(rt, seat) {
-        Ok(segment) => {
-            write!(shown, "{} of {}", segment.number(), segment.log().len())?;
-            segments.push(segment)?;
-            Ok(())
-        }
-        Err(fault) => write!(shown, "{fault}"),
-    }
-}
-
-impl<D: Desk> Called for Hall<D> {
-    type Seat = Seat;
-
-    fn sit<R: Wait>(&self, rt: &R) -> Result<Seat, HallFault> {
-        self.seat(rt)
-    }
-
-    fn make<R: Wait>(&self, rt: &R, seat: &mut Seat, call: Call) -> Result<Receipt, HallFault> {
-        self.call(rt, seat, call)
-    }
-
-    fn turn<R: Wait>(
-        &self,
-        rt: &R,
-        seat: &mut Seat,
-        segments: &mut Vec<Segment>,
-        words: &str,
-        shown: &mut String,
-    ) -> Result<(), Fail> {
-        let (verb, rest) = word(words);
-        match verb {
-            "rotate" => Ok(rotates(rt, self, seat, segments, shown)?),
-            "shed" => {
-                let segment = segment_at(segments.as_slice(), rest)?;
-                Ok(write!(shown, "{}", seat.shed(segment))?)
-            }
-            _ => {
-                let are_joined = are_joined(segments.as_slice(), rest)?;
-                Ok(write!(shown, "{are_joined}")?)
-            }
-        }
-    }
-
-    fn end(self, seats: Vec<Seat>) -> Result<(), (Hall<D>, Vec<Seat>)> {
-        match self.close(seats) {
-            Ok(_) => Ok(()),
-            Err(back) => Err(back),
-        }
-    }
-}
-
 // Does one thing, and shows its result.
-fn does<C: Called, R: Wait + AllocGlobal>(
+fn does<J: Run, D: Desk, R: Wait + AllocGlobal>(
     rt: &R,
-    place: &C,
-    seat: &mut C::Seat,
-    segments: &mut Vec<Segment>,
+    hall: &Hall<J, D>,
+    seat: &mut Seat<J>,
     words: &str,
 ) -> Result<String, Fail> {
     let mut shown = String::new(rt.alloc());
-    if matches!(word(words).0, "rotate" | "shed" | "joins") {
-        place.turn(rt, seat, segments, words, &mut shown)?;
+    if words == "rotate" {
+        match hall.rotate(rt, seat) {
+            Ok(rotated) => write!(shown, "{} of {}", rotated.number, rotated.entries)?,
+            Err(fault) => write!(shown, "{fault}")?,
+        }
     } else {
         let call = call_of(rt.alloc(), words)?;
-        show(&mut shown, &place.make(rt, seat, call))?;
+        show(&mut shown, &hall.call(rt, seat, &call))?;
     }
     Ok(shown)
 }
 
 // One line of a conversation.
-fn exchanges<C: Called, R: Wait + AllocGlobal>(
+fn exchanges<J: Run, D: Desk, R: Wait + AllocGlobal>(
     rt: &R,
-    place: &C,
-    seats: &mut [C::Seat],
-    segments: &mut Vec<Segment>,
+    hall: &Hall<J, D>,
+    seats: &mut [Seat<J>],
     line: &str,
 ) -> Result<(), Fail> {
     let (asked, wanted) = line.split_once(" = ").unwrap_or((line, ""));
@@ -252,89 +147,96 @@ fn exchanges<C: Called, R: Wait + AllocGlobal>(
     let seat = seats
         .get_mut(number.parse::<usize>()?)
         .ok_or("no such seat")?;
-    let shown = does(rt, place, seat, segments, words)?;
+    let shown = does(rt, hall, seat, words)?;
     if shown.as_str() == wanted {
         return Ok(());
     }
     Err(Fail::from(shown))
 }
 
-/// Each line is one of these:
+/// Each line is one of these, or has a refusal for the answer:
 ///
 ///     SEAT CALL = SEGMENT:PLACE ANSWER
 ///     SEAT rotate = SEGMENT of CALLS
-///     SEAT shed SEGMENT = true
-///     SEAT joins SEGMENT SEGMENT = true
-///
-/// or has a refusal, or false, for the answer. A rotation of a hall adds its segment to the others,
-/// which `shed` and `joins` count from 0.
-pub(crate) fn talks<C: Called, R: Wait + AllocGlobal>(
+pub(crate) fn talks<J: Run, D: Desk, R: Wait + AllocGlobal>(
     rt: &R,
-    place: &C,
-    seats: &mut [C::Seat],
+    hall: &Hall<J, D>,
+    seats: &mut [Seat<J>],
     talk: &str,
 ) -> Result<(), Fail> {
-    let mut segments = Vec::new(rt.alloc());
     for line in talk.lines() {
         let line = line.trim();
         if !line.is_empty() {
-            exchanges(rt, place, seats, &mut segments, line)?;
+            exchanges(rt, hall, seats, line)?;
         }
     }
     Ok(())
 }
 
 /// So many seats.
-pub(crate) fn seats_of<C: Called, R: Wait + AllocGlobal>(
+pub(crate) fn seats_of<J: Run, D: Desk, R: Wait + AllocGlobal>(
     rt: &R,
-    place: &C,
+    hall: &Hall<J, D>,
     count: usize,
-) -> Result<Vec<C::Seat>, Fail> {
+) -> Result<Vec<Seat<J>>, Fail> {
     let mut seats = Vec::new(rt.alloc());
     for _ in 0..count {
-        seats.push(place.sit(rt)?)?;
+        seats.push(hall.seat(rt)?)?;
     }
     Ok(seats)
 }
 
-/// It is closed with these seats.
-pub(crate) fn closes<C: Called>(place: C, seats: Vec<C::Seat>) -> Result<(), Fail> {
-    match place.end(seats) {
-        Ok(()) => Ok(()),
+/// It is closed with these seats, and has told which segment is the last, with so many calls.
+pub(crate) fn closes_at<J: Run, D: Desk>(
+    hall: Hall<J, D>,
+    seats: Vec<Seat<J>>,
+) -> Result<(u64, usize), Fail> {
+    match hall.close(seats) {
+        Ok(settled) => Ok((settled.last.number, settled.last.entries)),
         Err(_) => Err(Fail::from("close refused")),
     }
 }
 
+/// It is closed with these seats.
+pub(crate) fn closes<J: Run, D: Desk>(hall: Hall<J, D>, seats: Vec<Seat<J>>) -> Result<(), Fail> {
+    let _ = closes_at(hall, seats)?;
+    Ok(())
+}
+
 // It isn't closed without its last seat; it comes back with all of them.
-fn refused_without_last<C: Called>(
-    place: C,
-    mut seats: Vec<C::Seat>,
-) -> Result<(C, Vec<C::Seat>), Fail> {
+fn refused_without_last<J: Run, D: Desk>(
+    hall: Hall<J, D>,
+    mut seats: Vec<Seat<J>>,
+) -> Result<(Hall<J, D>, Vec<Seat<J>>), Fail> {
     let last = seats.pop().ok_or("no seat")?;
-    match place.end(seats) {
-        Ok(()) => Err(Fail::from("closed")),
-        Err((place, mut seats)) => {
+    match hall.close(seats) {
+        Ok(_) => Err(Fail::from("closed")),
+        Err((hall, mut seats)) => {
             seats.push(last)?;
-            Ok((place, seats))
+            Ok((hall, seats))
         }
     }
 }
 
 /// A conversation with the first of 64 seats, after which there is no other. It isn't closed while one
 /// of them is missing, before the conversation and after it, and is closed at the end, in whatever
-/// order they come.
-pub(crate) fn converses<C: Called, R: Wait + AllocGlobal>(
+/// order they come, in this segment and after so many calls of it.
+pub(crate) fn converses<J: Run, D: Desk, R: Wait + AllocGlobal>(
     rt: &R,
-    place: C,
+    hall: Hall<J, D>,
     talk: &str,
+    last: (u64, usize),
 ) -> Result<(), Fail> {
-    let seats = seats_of(rt, &place, 64)?;
-    if !matches!(place.sit(rt), Err(HallFault::NoSeat)) {
+    let seats = seats_of(rt, &hall, 64)?;
+    if !matches!(hall.seat(rt), Err(HallFault::NoSeat)) {
         return Err(Fail::from("one more seat"));
     }
-    let (place, mut seats) = refused_without_last(place, seats)?;
-    talks(rt, &place, seats.as_mut_slice(), talk)?;
-    let (place, mut seats) = refused_without_last(place, seats)?;
+    let (hall, mut seats) = refused_without_last(hall, seats)?;
+    talks(rt, &hall, seats.as_mut_slice(), talk)?;
+    let (hall, mut seats) = refused_without_last(hall, seats)?;
     seats.as_mut_slice().reverse();
-    closes(place, seats)
+    if closes_at(hall, seats)? == last {
+        return Ok(());
+    }
+    Err(Fail::from("another segment is the last"))
 }

@@ -1,176 +1,153 @@
-//! How a connection ends, by calls at a hall and at a shared desk: a reply has 18 bytes.
-
-ghost use Rattle.std.specs.Prelude.{◌≡◌};
+//! How a connection ends: a reply has 18 bytes.
 
 use crate::hall::shared::NEVER;
 use crate::hall::starved::Starved;
-use crate::hall::support::closes;
-use crate::work::support::{all_end, bob, hall_of};
-use std::marker::Brand;
+use crate::work::packets::{FIRST_QUESTION, RECORD};
+use crate::work::streams::{Scribe, Scripted, Sink, WHOLE};
+use crate::work::support::{Course, bob, door, runs, runs_for_bob, serves};
 use std::sync::Wait;
 use std::test::Fail;
-use tac_desk::Desk;
-use tac_desks::PlainDesk;
-use tac_forum::{EmptyHistory, Limits, Run, SharedDesk};
-use tac_hall::{Call, Hall, Seat};
-use tac_worker::{DeskCaller, HallCaller};
+use tac_hall::Limits;
+use tac_loop::Steady;
+use tac_worker::{Caller, Terms};
 
-// By what comes, what is written, and the gate. A reply is told before it is written, whole or not; nothing
-// of one is written that was refused, nor is anything read after it.
-const ENDS: &str = "
-    serve 9 - 99 9 = Finished 0 0
-    serve 9 pp 99 9 = Finished 36 2 pp
-    serve 9 ipiip 99 9 = Finished 36 2 pp
-    serve 9 h 99 9 = ByProtocol 0 0 h
-    serve 9 pph 99 9 = ByProtocol 36 2 pph
-    serve 9 phpp 99 9 = ByProtocol 18 1 ph
-    serve 9 x 99 9 = ReadFault 0 0
-    serve 9 ppxp 99 9 = ReadFault 36 2 pp
-    serve 9 pp 36 9 = Finished 36 2 pp
-    serve 9 pp 35 9 = WriteFault 35 1 pp
-    serve 9 pp 18 9 = WriteFault 18 1 pp
-    serve 9 pp 0 9 = WriteFault 0 0 p
-    serve 9 ppp 99 2 = Held 36 2 pp
-    serve 9 p 99 0 = Held 0 0
-    serve 9 h 99 0 = ByProtocol 0 0 h
-    serve 0 pp 99 9 = Unwitnessed 0 0 p
-    serve 1 ppp 99 9 = Unwitnessed 18 1 pp
-    serve 2 pph 99 9 = Unwitnessed 36 2 pph
-    serve 0 h 99 9 = Unwitnessed 0 0 h
-    link 9 ipiip 99 9 = Finished 36 2 pp
-    link 9 phpp 99 9 = ByProtocol 18 1 ph
-    link 9 ppxp 99 9 = ReadFault 36 2 pp
-    link 9 pp 35 9 = WriteFault 35 2 pp
-    link 9 pp 18 9 = WriteFault 18 2 pp
-    link 9 pp 0 9 = WriteFault 0 1 p
-    link 9 ppp 99 2 = Held 36 2 pp
-    link 0 pp 99 9 = Unwitnessed 0 0 p
-    link 1 ppp 99 9 = Unwitnessed 18 1 pp
-    link 0 h 99 9 = Unwitnessed 0 0 h
-";
+fn number(word: Option<&str>) -> Result<usize, Fail> {
+    Ok(word.ok_or("no number")?.parse::<usize>()?)
+}
 
-// The log takes two calls.
-const FULL: &str = "
-    serve 9 pp 99 9 = Finished 36 2 pp
-    serve 9 ph 99 9 = LogFull 0 0
-    link 9 ph 99 9 = LogFull 0 0
-";
-
-// Connections by this seat of a hall.
-fn all_end_at<R: Wait + AllocGlobal>(
+// What a connection comes to by this caller.
+fn comes_to<C: Caller, R: Wait + AllocGlobal>(
     rt: &R,
-    hall: &Hall<PlainDesk>,
-    seat: Seat,
-    lines: &str,
-) -> Result<(), Fail> {
-    let mut caller = HallCaller::new(rt, hall, seat);
-    all_end(rt, &mut caller, lines)
-}
-
-#[test]
-fn at_a_hall(rt: HostRuntime) -> Result<(), Fail> {
-    let hall = hall_of(&rt, 999)?;
-    all_end_at(&rt, &hall, hall.seat(&rt)?, ENDS)?;
-    let full = hall_of(&rt, 2)?;
-    all_end_at(&rt, &full, full.seat(&rt)?, FULL)?;
-    let mut other = hall.seat(&rt)?;
-    if hall.call(&rt, &mut other, Call::Stop).is_err() {
-        return Err(Fail::from("no stop"));
+    caller: &mut C,
+    asked: &str,
+) -> Result<String, Fail> {
+    let alloc = rt.alloc();
+    let mut words = asked.split(' ');
+    let scribe = Scribe {
+        told: String::new(alloc),
+        takes: number(words.next())?,
+    };
+    let (question, record) = (
+        hex::decode(alloc, FIRST_QUESTION.as_bytes())?,
+        hex::decode(alloc, RECORD.as_bytes())?,
+    );
+    let mut reader = Scripted {
+        letters: words.next().unwrap_or("").as_bytes(),
+        question: question.as_slice(),
+        record: record.as_slice(),
+    };
+    let mut writer = Sink::new(alloc, number(words.next())?, WHOLE);
+    let door = door()?;
+    let terms = Terms { alloc, door: &door };
+    let (end, scribe) = serves(&terms, caller, scribe, &mut reader, &mut writer);
+    let (written, told) = (writer.taken.len(), scribe.told.as_str());
+    match end {
+        Some(end) => Ok(format!(in alloc; "{end:?} {written} {told}")?),
+        None => Ok(format!(in alloc; "open {written} {told}")?),
     }
-    all_end_at(&rt, &hall, hall.seat(&rt)?, "serve 9 pp 99 9 = Stopped 0 0")?;
-    // a seat of another hall
-    all_end_at(&rt, &full, other, "link 9 pp 99 9 = NoSeat 0 0")
 }
 
-// The limits of a shared desk, whether another seat has stopped it, and the connections that a seat serves
-// then, one after another.
+// Connections that a seat serves, one after another, a line each:
+//
+//     TAKES LETTERS ROOM = END BYTES NOTICES
+//
+// How many notices the witness takes; what comes, and for how many bytes there is room. How it ended, or
+// `open` where it was given up, how many bytes of replies were sent, and what the witness was told.
 #[derive(Clone, Copy)]
-struct Course {
+struct Ends {
     calls: usize,
     rotate_at: usize,
     is_stopped: bool,
     lines: &'static str,
 }
 
-// A seat serves such connections at a new desk of this run, which is closed with it and the other.
-fn serves_of<J: Run, D: Desk, R: Wait + AllocGlobal>(
-    rt: &R,
-    history: EmptyHistory,
-    desk: D,
-    limits: Limits,
-    course: Course,
-) -> Result<(), Fail>
-    requires roll { history ≡ J.roll }
-    requires opening { record { meaning = D.meaning desk; limits = limits } ≡ J.opening }
-{
-    let desk: SharedDesk<J, D> = SharedDesk::new(history, desk, limits);
-    let mut seats = Vec::with_capacity(rt.alloc(), 2)?;
-    let mut other = desk.seat(rt)?;
-    if course.is_stopped && desk.call(rt, &mut other, &Call::Stop).is_err() {
-        return Err(Fail::from("no stop"));
+impl Course for Ends {
+    fn opens(&self) -> (Limits, bool) {
+        let (calls, rotate_at) = (self.calls, self.rotate_at);
+        (Limits { calls, rotate_at }, self.is_stopped)
     }
-    let mut caller = DeskCaller::new(rt, &desk, desk.seat(rt)?);
-    all_end(rt, &mut caller, course.lines)?;
-    seats.push(caller.into_seat())?;
-    seats.push(other)?;
-    closes(desk, seats)
+
+    fn runs<C: Steady, R: Wait + AllocGlobal>(&self, rt: &R, caller: C) -> Result<C, Fail> {
+        let mut caller = caller;
+        for line in self.lines.lines() {
+            let line = line.trim();
+            let (asked, wanted) = line.split_once(" = ").unwrap_or((line, ""));
+            if asked.is_empty() {
+                continue;
+            }
+            let came = comes_to(rt, &mut caller, asked)?;
+            if came.as_str().trim_end() != wanted {
+                return Err(Fail::from(came));
+            }
+        }
+        Ok(caller)
+    }
 }
 
-fn serves<D: Desk, R: Wait + AllocGlobal>(rt: &R, desk: D, course: Course) -> Result<(), Fail> {
-    let history = EmptyHistory::new(rt.alloc())?;
-    let (calls, rotate_at) = (course.calls, course.rotate_at);
-    serves_of::<Brand, D, R>(rt, history, desk, Limits { calls, rotate_at }, course)
-}
-
-// The same at a desk of bob's policy.
-fn serves_bob<R: Wait + AllocGlobal>(rt: &R, course: Course) -> Result<(), Fail> {
-    let policy = bob(rt.alloc())?;
-    serves(rt, PlainDesk::new(rt.alloc(), policy, 9)?, course)
-}
+// By what comes, and what is sent. A reply is told before it is sent, whole or not; nothing of one is sent
+// that was refused, nor is anything read after it.
+const ENDS: &str = "
+    9 - 99 = Finished 0
+    9 pp 99 = Finished 36 pp
+    9 ipiip 99 = Finished 36 pp
+    9 h 99 = ByProtocol 0 h
+    9 pph 99 = ByProtocol 36 pph
+    9 phpp 99 = ByProtocol 18 ph
+    9 x 99 = ReadFault 0
+    9 ppxp 99 = ReadFault 36 pp
+    9 pp 36 = Finished 36 pp
+    9 pp 35 = open 35 pp
+    9 pp 18 = open 18 pp
+    9 pp 0 = open 0 p
+    0 pp 99 = Unwitnessed 0 p
+    1 ppp 99 = Unwitnessed 18 pp
+    2 pph 99 = Unwitnessed 36 pph
+    0 h 99 = Unwitnessed 0 h
+";
 
 // A full log ends a connection, but not where a call begins the next segment before.
 #[test]
-fn at_a_shared_desk(rt: HostRuntime) -> Result<(), Fail> {
-    let roomy = Course {
+fn of_a_connection(rt: HostRuntime) -> Result<(), Fail> {
+    let roomy = Ends {
         calls: 999,
         rotate_at: NEVER,
         is_stopped: false,
         lines: ENDS,
     };
-    serves_bob(&rt, roomy)?;
-    let full = Course {
+    runs_for_bob(&rt, roomy)?;
+    let full = Ends {
         calls: 2,
-        lines: FULL,
+        lines: "9 pp 99 = Finished 36 pp\n9 ph 99 = LogFull 0",
         ..roomy
     };
-    serves_bob(&rt, full)?;
-    let by_itself = Course {
+    runs_for_bob(&rt, full)?;
+    let by_itself = Ends {
         rotate_at: 3,
-        lines: "serve 9 ppph 99 9 = ByProtocol 54 3 ppph",
+        lines: "9 ppph 99 = ByProtocol 54 ppph",
         ..full
     };
-    serves_bob(&rt, by_itself)?;
-    let stopped = Course {
+    runs_for_bob(&rt, by_itself)?;
+    let stopped = Ends {
         is_stopped: true,
-        lines: "serve 9 pp 99 9 = Stopped 0 0\nlink 9 pp 99 9 = Stopped 0 0",
+        lines: "9 pp 99 = Stopped 0",
         ..roomy
     };
-    serves_bob(&rt, stopped)
+    runs_for_bob(&rt, stopped)
 }
 
 #[test]
 fn without_memory_for_a_record(rt: HostRuntime) -> Result<(), Fail> {
     let desk = Starved::new(rt.alloc(), bob(rt.alloc())?)?;
-    let course = Course {
+    let course = Ends {
         calls: 99,
         rotate_at: NEVER,
         is_stopped: false,
         lines: "
-            serve 9 r 99 9 = Memory 0 0
-            serve 9 pprp 99 9 = Memory 36 2 pp
-            serve 9 pp 99 9 = Finished 36 2 pp
-            link 9 prp 99 9 = Memory 18 1 p
+            9 r 99 = Memory 0
+            9 pprp 99 = Memory 36 pp
+            9 pp 99 = Finished 36 pp
+            9 prp 99 = Memory 18 p
         ",
     };
-    serves(&rt, desk, course)
+    runs(&rt, desk, course)
 }

@@ -1,13 +1,11 @@
-//! Readers, writers, a gate and a witness that do what a test says.
+//! Readers, writers and a witness that do what a test says.
 
 ghost use Rattle.std.specs.Prelude.{◌≡◌, ◌≤◌, length};
 
 use std::alloc::Global;
 use std::io::{self, ErrorKind, Read, Write};
-use std::sync::atomic::{AtomicU64, Ordering};
 use tac_audit::{Notice, Refused, Witness};
 use tac_conn::Packet;
-use tac_worker::Gate;
 
 /// Gives the question for a `p`, the record for an `r`, twelve bytes that are no header for an `h`,
 /// is interrupted for an `i`, and fails for an `x`. At a `-` and after the last letter nothing is left.
@@ -135,25 +133,6 @@ impl Write for Sink {
 
     fn flush(&mut self) -> io::Result<()> {
         Ok(())
-    }
-}
-
-/// Lets so many calls pass, and counts the replies.
-#[derive(Drop)]
-pub(crate) struct Counting {
-    pub(crate) calls: AtomicU64,
-    pub(crate) replies: AtomicU64,
-}
-
-impl Gate for Counting {
-    fn may_call(&self, _seat: u32) -> bool {
-        let left = self.calls.load(Ordering::SeqCst);
-        self.calls.store(left.saturating_sub(1), Ordering::SeqCst);
-        left > 0
-    }
-
-    fn replied(&self, _seat: u32) {
-        self.replies.fetch_add(1, Ordering::SeqCst);
     }
 }
 

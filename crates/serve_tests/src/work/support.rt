@@ -1,23 +1,24 @@
-//! What the tests share: halls, and connections that are served by any caller.
+//! What the tests share: new halls, and connections that are served there.
 
-use crate::work::packets::{FIRST_QUESTION, RECORD};
-use crate::work::streams::{Counting, Scribe, Scripted, Sink, WHOLE};
+ghost use Rattle.std.specs.Prelude.{◌≡◌};
+
+use crate::hall::support::closes;
+use crate::work::streams::{Scribe, Sink};
 use pol_text::{Policy, PolicyFault};
 use std::alloc::Global;
+use std::io::Read;
+use std::marker::Brand;
 use std::sync::Wait;
-use std::sync::atomic::{AtomicU64, Ordering};
 use std::test::Fail;
+use tac_desk::Desk;
 use tac_desks::PlainDesk;
-use tac_hall::Hall;
+use tac_hall::{Call, EmptyHistory, Hall, Limits, Run};
+use tac_loop::Steady;
 use tac_wire::{Door, Key};
-use tac_worker::{CHUNK, Caller, Due, End, Gate, Link, Terms, serve};
-
-pub(crate) fn key() -> Result<Key, Fail> {
-    Ok(Key::read(b"k").ok_or("no key")?)
-}
+use tac_worker::{CHUNK, Caller, Due, End, HallCaller, Link, Terms};
 
 pub(crate) fn door() -> Result<Door, Fail> {
-    Ok(Door::Padded(key()?))
+    Ok(Door::Padded(Key::read(b"k").ok_or("no key")?))
 }
 
 /// A policy under which bob may show things, and log in.
@@ -25,25 +26,69 @@ pub(crate) fn bob(alloc: Global) -> Result<Policy, PolicyFault> {
     Policy::read(alloc, b"user bob\nlogin secret\npermit show .*\n")
 }
 
-/// A hall round a desk of bob's policy, whose log takes so many calls.
-pub(crate) fn hall_of<R: AllocGlobal>(rt: &R, limit: usize) -> Result<Hall<PlainDesk>, Fail> {
-    let policy = bob(rt.alloc())?;
-    let desk = PlainDesk::new(rt.alloc(), policy, 9)?;
-    Ok(Hall::new(rt, desk, limit)?)
+/// What a test does by a seat of a new hall.
+pub(crate) trait Course: Drop {
+    /// The limits of the hall, and whether another seat has stopped it.
+    fn opens(&self) -> (Limits, bool);
+
+    /// It is done, and the caller comes back.
+    fn runs<C: Steady, R: Wait + AllocGlobal>(&self, rt: &R, caller: C) -> Result<C, Fail>;
 }
 
-// Serves a connection in turns, as far as it gets on. One that doesn't end is given up, and told as one
-// whose writer failed.
-fn links<H, G: Gate, C: Caller>(
-    terms: &Terms<'_, H, G>,
+fn runs_at<J: Run, D: Desk, K: Course, R: Wait + AllocGlobal>(
+    rt: &R,
+    history: EmptyHistory,
+    desk: D,
+    limits: Limits,
+    is_stopped: bool,
+    course: K,
+) -> Result<(), Fail>
+    requires roll { history ≡ J.roll }
+    requires opening { record { meaning = D.meaning desk; limits = limits } ≡ J.opening }
+{
+    let hall: Hall<J, D> = Hall::new(history, desk, limits);
+    let mut seats = Vec::with_capacity(rt.alloc(), 2)?;
+    let mut other = hall.seat(rt)?;
+    if is_stopped && hall.call(rt, &mut other, &Call::Stop).is_err() {
+        return Err(Fail::from("no stop"));
+    }
+    let caller = course.runs(rt, HallCaller::new(rt, &hall, hall.seat(rt)?))?;
+    seats.push(caller.into_seat())?;
+    seats.push(other)?;
+    closes(hall, seats)
+}
+
+/// The course is run at a new hall round this desk, which is closed then.
+pub(crate) fn runs<D: Desk, K: Course, R: Wait + AllocGlobal>(
+    rt: &R,
+    desk: D,
+    course: K,
+) -> Result<(), Fail> {
+    let history = EmptyHistory::new(rt.alloc())?;
+    let (limits, is_stopped) = course.opens();
+    runs_at::<Brand, D, K, R>(rt, history, desk, limits, is_stopped, course)
+}
+
+/// The same round a desk of bob's policy.
+pub(crate) fn runs_for_bob<K: Course, R: Wait + AllocGlobal>(
+    rt: &R,
+    course: K,
+) -> Result<(), Fail> {
+    let policy = bob(rt.alloc())?;
+    runs(rt, PlainDesk::new(rt.alloc(), policy, 9)?, course)
+}
+
+/// Serves a connection as far as it gets on: how it ended, if it did, and its witness.
+pub(crate) fn serves<C: Caller, I: Read>(
+    terms: &Terms<'_>,
     caller: &mut C,
     scribe: Scribe,
-    reader: &mut Scripted<'_>,
+    reader: &mut I,
     writer: &mut Sink,
-) -> (End, Scribe) {
+) -> (Option<End>, Scribe) {
     let mut link = Link::new(terms, scribe, caller);
     let mut chunk = [0; CHUNK];
-    for _ in 0..500 {
+    for _ in 0..2_000 {
         match link.due() {
             Due::Turn => link.turn(terms, caller),
             Due::Hear => link.hear(reader, &mut chunk),
@@ -53,91 +98,5 @@ fn links<H, G: Gate, C: Caller>(
             Due::Close => {}
         }
     }
-    (link.end().unwrap_or(End::WriteFault), link.into_witness())
-}
-
-// Serves it at once, or in turns.
-fn serves<H: Wait, G: Gate, C: Caller>(
-    terms: &Terms<'_, H, G>,
-    caller: &mut C,
-    is_linked: bool,
-    mut scribe: Scribe,
-    reader: &mut Scripted<'_>,
-    writer: &mut Sink,
-) -> (End, Scribe) {
-    if is_linked {
-        return links(terms, caller, scribe, reader, writer);
-    }
-    let end = serve(terms, caller, &mut scribe, reader, writer);
-    (end, scribe)
-}
-
-fn number(word: Option<&str>) -> Result<usize, Fail> {
-    Ok(word.ok_or("no number")?.parse::<usize>()?)
-}
-
-// What a connection comes to by this caller.
-fn comes_to<C: Caller, R: Wait + AllocGlobal>(
-    rt: &R,
-    caller: &mut C,
-    asked: &str,
-) -> Result<String, Fail> {
-    let alloc = rt.alloc();
-    let mut words = asked.split(' ');
-    let is_linked = words.next() == Some("link");
-    let scribe = Scribe {
-        told: String::new(alloc),
-        takes: number(words.next())?,
-    };
-    let (question, record) = (
-        hex::decode(alloc, FIRST_QUESTION.as_bytes())?,
-        hex::decode(alloc, RECORD.as_bytes())?,
-    );
-    let mut reader = Scripted {
-        letters: words.next().unwrap_or("").as_bytes(),
-        question: question.as_slice(),
-        record: record.as_slice(),
-    };
-    let mut writer = Sink::new(alloc, number(words.next())?, WHOLE);
-    let gate = Counting {
-        calls: AtomicU64::new(number(words.next())? as u64),
-        replies: AtomicU64::new(0),
-    };
-    let door = door()?;
-    let terms = Terms {
-        rt,
-        alloc,
-        door: &door,
-        gate: &gate,
-    };
-    let (end, scribe) = serves(&terms, caller, is_linked, scribe, &mut reader, &mut writer);
-    let heard = gate.replies.load(Ordering::SeqCst);
-    let (written, told) = (writer.taken.len(), scribe.told.as_str());
-    Ok(format!(in alloc; "{end:?} {written} {heard} {told}")?)
-}
-
-/// Connections that this caller makes the calls of, one after another, a line each:
-///
-///     HOW TAKES LETTERS ROOM CALLS = END BYTES REPLIES NOTICES
-///
-/// `serve` or `link`, which is in turns; how many notices the witness takes; what comes, for how many
-/// bytes there is room, and how many calls the gate lets pass. How it ended, how many bytes of replies
-/// were written, of how many replies the gate heard, and what the witness was told.
-pub(crate) fn all_end<C: Caller, R: Wait + AllocGlobal>(
-    rt: &R,
-    caller: &mut C,
-    lines: &str,
-) -> Result<(), Fail> {
-    for line in lines.lines() {
-        let line = line.trim();
-        let (asked, wanted) = line.split_once(" = ").unwrap_or((line, ""));
-        if asked.is_empty() {
-            continue;
-        }
-        let came = comes_to(rt, caller, asked)?;
-        if came.as_str().trim_end() != wanted {
-            return Err(Fail::from(came));
-        }
-    }
-    Ok(())
+    (link.end(), link.into_witness())
 }

@@ -1,16 +1,17 @@
 //! Readers and writers that fail in mid-stream, that give or take little, and that are interrupted.
 
+use crate::hall::shared::NEVER;
 use crate::work::packets::{
     FAILURE, LOGINS, PASSES, PERMISSION, PERMISSIONS, QUESTION, QUESTIONS, WRONG_LOGIN,
 };
-use crate::work::streams::{Manner, Sink, Source, WHOLE};
-use crate::work::support::{hall_of, key};
+use crate::work::streams::{Manner, Scribe, Sink, Source, WHOLE};
+use crate::work::support::{Course, door, runs_for_bob, serves};
 use std::alloc::Global;
 use std::sync::Wait;
 use std::test::Fail;
-use tac_desks::PlainDesk;
-use tac_hall::{Hall, Seat};
-use tac_worker::{End, OpenGate, Worked, work};
+use tac_hall::Limits;
+use tac_loop::Steady;
+use tac_worker::{Caller, End, Terms};
 
 // How a connection comes to its end: what comes on it, how many bytes there is room for, and how these
 // are given and taken.
@@ -22,26 +23,28 @@ struct Way<'a> {
     taken: Manner,
 }
 
-// Serves such a connection, which ends so, with so many receipts and these bytes written. The seat comes
-// back.
-fn serves<R: Wait + AllocGlobal>(
+// Serves such a connection, which ends so, after its witness was told this, with these bytes
+// sent.
+fn ends<C: Caller, R: Wait + AllocGlobal>(
     rt: &R,
-    hall: &Hall<PlainDesk>,
-    seat: Seat,
+    caller: &mut C,
     way: Way<'_>,
-    wanted: (End, usize, &[u8]),
-) -> Result<Seat, Fail> {
+    wanted: (Option<End>, &str, &[u8]),
+) -> Result<(), Fail> {
+    let alloc = rt.alloc();
     let mut source = Source::new(way.asked, way.given);
-    let mut sink = Sink::new(rt.alloc(), way.room, way.taken);
-    let Worked {
-        seat,
-        receipts,
-        end,
-    } = work(rt, hall, &key()?, seat, &mut source, &mut sink, &OpenGate);
-    if (end, receipts.len(), sink.taken.as_slice()) == wanted {
-        return Ok(seat);
+    let mut sink = Sink::new(alloc, way.room, way.taken);
+    let scribe = Scribe {
+        told: String::new(alloc),
+        takes: 99,
+    };
+    let door = door()?;
+    let terms = Terms { alloc, door: &door };
+    let (end, scribe) = serves(&terms, caller, scribe, &mut source, &mut sink);
+    if (end, scribe.told.as_str(), sink.taken.as_slice()) == wanted {
+        return Ok(());
     }
-    Err(Fail::from(format!(in rt.alloc(); "{end:?} at {} bytes", wanted.2.len())?))
+    Err(Fail::from(format!(in alloc; "{end:?} at {} bytes", wanted.2.len())?))
 }
 
 const FAILING: Manner = Manner {
@@ -50,18 +53,24 @@ const FAILING: Manner = Manner {
     fails: true,
 };
 
+const NARROW: Manner = Manner {
+    piece: 1,
+    interrupted: true,
+    fails: false,
+};
+
 fn decoded(alloc: Global, digits: &str) -> Result<Vec<u8>, Fail> {
     Ok(hex::decode(alloc, digits.as_bytes())?)
 }
 
 // A writer has room for a beginning of the reply, and after it fails or takes nothing. The call is made in
 // any case.
-#[test]
-fn a_writer_that_fails(rt: HostRuntime) -> Result<(), Fail> {
+fn by_failing_writers<C: Caller, R: Wait + AllocGlobal>(
+    rt: &R,
+    caller: &mut C,
+) -> Result<(), Fail> {
     let asked = decoded(rt.alloc(), QUESTION)?;
     let reply = decoded(rt.alloc(), PERMISSION)?;
-    let hall = hall_of(&rt, 99)?;
-    let mut seat = hall.seat(&rt)?;
     for taken in [FAILING, WHOLE] {
         for room in 0..reply.len() {
             let way = Way {
@@ -70,8 +79,8 @@ fn a_writer_that_fails(rt: HostRuntime) -> Result<(), Fail> {
                 room,
                 taken,
             };
-            let wanted = (End::WriteFault, 1, &reply.as_slice()[..room]);
-            seat = serves(&rt, &hall, seat, way, wanted)?;
+            let wanted = (Some(End::ByProtocol), "p", &reply.as_slice()[..room]);
+            ends(rt, caller, way, wanted)?;
         }
     }
     Ok(())
@@ -79,11 +88,11 @@ fn a_writer_that_fails(rt: HostRuntime) -> Result<(), Fail> {
 
 // A reader fails after a beginning of the packet, which comes at once or byte by byte. No call is made until
 // the packet is there.
-#[test]
-fn a_reader_that_fails(rt: HostRuntime) -> Result<(), Fail> {
+fn by_failing_readers<C: Caller, R: Wait + AllocGlobal>(
+    rt: &R,
+    caller: &mut C,
+) -> Result<(), Fail> {
     let asked = decoded(rt.alloc(), QUESTION)?;
-    let hall = hall_of(&rt, 99)?;
-    let mut seat = hall.seat(&rt)?;
     for piece in [9999, 1] {
         for length in 0..asked.len() {
             let way = Way {
@@ -92,32 +101,23 @@ fn a_reader_that_fails(rt: HostRuntime) -> Result<(), Fail> {
                 room: 99,
                 taken: WHOLE,
             };
-            seat = serves(&rt, &hall, seat, way, (End::ReadFault, 0, b""))?;
+            ends(rt, caller, way, (Some(End::ReadFault), "", b""))?;
         }
     }
     Ok(())
 }
 
-const NARROW: Manner = Manner {
-    piece: 1,
-    interrupted: true,
-    fails: false,
-};
-
-/// What is asked, what it is answered, how the connection ends, and how many calls are made.
-const CONVERSATIONS: [(&str, &str, End, usize); 4] = [
-    (QUESTION, PERMISSION, End::ByProtocol, 1),
-    (QUESTIONS, PERMISSIONS, End::Finished, 2),
-    (LOGINS, PASSES, End::Finished, 2),
-    (WRONG_LOGIN, FAILURE, End::Finished, 1),
+/// What is asked, what it is answered, how the connection ends, and what its witness is told.
+const CONVERSATIONS: [(&str, &str, End, &str); 4] = [
+    (QUESTION, PERMISSION, End::ByProtocol, "p"),
+    (QUESTIONS, PERMISSIONS, End::Finished, "pp"),
+    (LOGINS, PASSES, End::Finished, "pppp"),
+    (WRONG_LOGIN, FAILURE, End::Finished, "p"),
 ];
 
 // Each read and write is interrupted once, and a byte is given or taken at a time.
-#[test]
-fn a_byte_at_a_time(rt: HostRuntime) -> Result<(), Fail> {
-    let hall = hall_of(&rt, 99)?;
-    let mut seat = hall.seat(&rt)?;
-    for (asked, answered, end, calls) in CONVERSATIONS {
+fn byte_by_byte<C: Caller, R: Wait + AllocGlobal>(rt: &R, caller: &mut C) -> Result<(), Fail> {
+    for (asked, answered, end, told) in CONVERSATIONS {
         let asked = decoded(rt.alloc(), asked)?;
         let answered = decoded(rt.alloc(), answered)?;
         let way = Way {
@@ -126,7 +126,34 @@ fn a_byte_at_a_time(rt: HostRuntime) -> Result<(), Fail> {
             room: 99,
             taken: NARROW,
         };
-        seat = serves(&rt, &hall, seat, way, (end, calls, answered.as_slice()))?;
+        ends(rt, caller, way, (Some(end), told, answered.as_slice()))?;
     }
     Ok(())
+}
+
+// All of these, by one seat.
+#[derive(Clone, Copy)]
+struct Transports;
+
+impl Course for Transports {
+    fn opens(&self) -> (Limits, bool) {
+        let limits = Limits {
+            calls: 99,
+            rotate_at: NEVER,
+        };
+        (limits, false)
+    }
+
+    fn runs<C: Steady, R: Wait + AllocGlobal>(&self, rt: &R, caller: C) -> Result<C, Fail> {
+        let mut caller = caller;
+        by_failing_writers(rt, &mut caller)?;
+        by_failing_readers(rt, &mut caller)?;
+        byte_by_byte(rt, &mut caller)?;
+        Ok(caller)
+    }
+}
+
+#[test]
+fn that_fails_or_is_slow(rt: HostRuntime) -> Result<(), Fail> {
+    runs_for_bob(&rt, Transports)
 }

@@ -1,45 +1,66 @@
 //! Connections, their turns, and why they are left: a reply has 18 bytes.
 
+use crate::hall::shared::NEVER;
 use crate::work::packets::{LOGINS, PASSES, PERMISSIONS, QUESTIONS};
 use crate::work::pipe::{Pace, Pipe, WHOLE};
-use crate::work::support::{door, hall_of};
+use crate::work::support::{Course, door, runs_for_bob};
+use std::alloc::Global;
 use std::sync::Wait;
 use std::test::Fail;
 use tac_audit::Nobody;
-use tac_loop::Switchboard;
+use tac_hall::Limits;
+use tac_loop::{Steady, Switchboard};
 use tac_wire::Door;
-use tac_worker::{CHUNK, HallCaller, OpenGate, Terms};
+use tac_worker::{CHUNK, Terms};
 
 // Connections that give these bytes at this pace have so many turns each, one connection after another, so
-// many times: why each is left each time, and what was written, first on the first.
-fn leaves<'x, R: Wait + AllocGlobal>(
-    rt: &'x R,
-    door: &'x Door,
-    asked: &'x [Vec<u8>],
+// many times. Why each is left each time, if that is asked, and the first bytes of what is written, first
+// on the first.
+#[derive(Clone, Copy)]
+struct Turns {
+    asked: &'static [&'static str],
     pace: Pace,
     turns: u32,
     times: u32,
-) -> Result<(String, Vec<u8>), Fail> {
-    let alloc = rt.alloc();
-    let hall = hall_of(rt, 99)?;
-    let terms = Terms {
-        rt,
-        alloc,
-        door,
-        gate: &OpenGate,
-    };
-    let mut board = Switchboard::new(alloc, HallCaller::new(rt, &hall, hall.seat(rt)?));
+    seen: Option<&'static str>,
+    written: &'static [&'static str],
+    bytes: usize,
+}
+
+// These bytes, one text after another.
+fn decoded(alloc: Global, texts: &[&str]) -> Result<Vec<u8>, Fail> {
+    let mut bytes = Vec::new(alloc);
+    for text in texts {
+        bytes.extend_from_slice(hex::decode(alloc, text.as_bytes())?.as_slice())?;
+    }
+    Ok(bytes)
+}
+
+// What is seen, and what is written; the caller comes back.
+fn leaves<'x, C: Steady>(
+    caller: C,
+    alloc: Global,
+    door: &'x Door,
+    asked: &'x [Vec<u8>],
+    course: Turns,
+) -> Result<(C, String, Vec<u8>), Fail> {
+    let terms = Terms { alloc, door };
+    let mut board = Switchboard::new(alloc, caller);
     let (mut keys, mut seen, mut written) = (Vec::new(alloc), String::new(alloc), Vec::new(alloc));
     for bytes in asked {
-        match board.add(&terms, Nobody, Pipe::new(alloc, bytes.as_slice(), pace)) {
+        match board.add(
+            &terms,
+            Nobody,
+            Pipe::new(alloc, bytes.as_slice(), course.pace),
+        ) {
             Ok(key) => keys.push(key)?,
             Err(_) => return Err(Fail::from("not added")),
         }
     }
     let mut chunk = [0; CHUNK];
-    for _ in 0..times {
+    for _ in 0..course.times {
         for key in keys.iter() {
-            let stop = board.serve(*key, &terms, &mut chunk, turns);
+            let stop = board.serve(*key, &terms, &mut chunk, course.turns);
             write!(seen, "{stop:?} ")?;
         }
     }
@@ -47,41 +68,87 @@ fn leaves<'x, R: Wait + AllocGlobal>(
         let (_, pipe) = board.remove(*key).ok_or("no connection")?.into_parts();
         written.extend_from_slice(pipe.taken.as_slice())?;
     }
-    Ok((seen, written))
+    Ok((board.into_caller(), seen, written))
 }
 
-// A connection with two questions is left so, after so many bytes.
+impl Course for Turns {
+    fn opens(&self) -> (Limits, bool) {
+        let limits = Limits {
+            calls: 99,
+            rotate_at: NEVER,
+        };
+        (limits, false)
+    }
+
+    fn runs<C: Steady, R: Wait + AllocGlobal>(&self, rt: &R, caller: C) -> Result<C, Fail> {
+        let alloc = rt.alloc();
+        let mut asked = Vec::new(alloc);
+        for text in self.asked {
+            asked.push(hex::decode(alloc, text.as_bytes())?)?;
+        }
+        let door = door()?;
+        let (caller, seen, written) = leaves(caller, alloc, &door, asked.as_slice(), *self)?;
+        if let Some(wanted) = self.seen {
+            if seen.as_str().trim_end() != wanted {
+                return Err(Fail::from(seen));
+            }
+        }
+        let wanted = decoded(alloc, self.written)?;
+        if written.len() != self.bytes || !wanted.as_slice().starts_with(written.as_slice()) {
+            return Err(Fail::from("other bytes"));
+        }
+        Ok(caller)
+    }
+}
+
+// A connection with two questions is left so, after so many bytes of their answers.
 fn is_left<R: Wait + AllocGlobal>(
     rt: &R,
     pace: Pace,
     turns: u32,
     times: u32,
-    wanted: &str,
+    wanted: (&'static str, usize),
 ) -> Result<(), Fail> {
-    let asked = [hex::decode(rt.alloc(), QUESTIONS.as_bytes())?];
-    let (seen, written) = leaves(rt, &door()?, asked.as_slice(), pace, turns, times)?;
-    let came = format!(in rt.alloc(); "{seen}{}", written.len())?;
-    if came.as_str() == wanted {
-        return Ok(());
-    }
-    Err(Fail::from(came))
+    let (seen, bytes) = wanted;
+    let course = Turns {
+        asked: &[QUESTIONS],
+        pace,
+        turns,
+        times,
+        seen: Some(seen),
+        written: &[PERMISSIONS],
+        bytes,
+    };
+    runs_for_bob(rt, course)
 }
 
 #[test]
 fn until_its_end_or_until_it_would_wait(rt: HostRuntime) -> Result<(), Fail> {
-    is_left(&rt, WHOLE, 16, 2, "Ended(Finished) Ended(Finished) 36")?;
-    is_left(&rt, WHOLE, 3, 3, "Busy Busy Ended(Finished) 36")?;
+    is_left(&rt, WHOLE, 16, 2, ("Ended(Finished) Ended(Finished)", 36))?;
+    is_left(&rt, WHOLE, 3, 3, ("Busy Busy Ended(Finished)", 36))?;
     let open = Pace {
         ends: false,
         ..WHOLE
     };
-    is_left(&rt, open, 16, 2, "Idle Idle 36")?;
+    is_left(&rt, open, 16, 2, ("Idle Idle", 36))?;
     let pauses = Pace {
         pauses: true,
         ..WHOLE
     };
-    is_left(&rt, pauses, 16, 5, "Idle Full Full Idle Ended(Finished) 36")?;
-    is_left(&rt, Pace { room: 20, ..WHOLE }, 16, 2, "Broken Broken 20")
+    is_left(
+        &rt,
+        pauses,
+        16,
+        5,
+        ("Idle Full Full Idle Ended(Finished)", 36),
+    )?;
+    is_left(
+        &rt,
+        Pace { room: 20, ..WHOLE },
+        16,
+        2,
+        ("Broken Broken", 20),
+    )
 }
 
 // The first asks and the second logs in, a byte at a time, and every other call finds the socket
@@ -93,14 +160,14 @@ fn each_has_its_own(rt: HostRuntime) -> Result<(), Fail> {
         pauses: true,
         ..WHOLE
     };
-    let alloc = rt.alloc();
-    let asked = [
-        hex::decode(alloc, QUESTIONS.as_bytes())?,
-        hex::decode(alloc, LOGINS.as_bytes())?,
-    ];
-    let (_, written) = leaves(&rt, &door()?, asked.as_slice(), pace, 1, 2000)?;
-    let mut wanted = hex::decode(alloc, PERMISSIONS.as_bytes())?;
-    wanted.extend_from_slice(hex::decode(alloc, PASSES.as_bytes())?.as_slice())?;
-    assert!(rt; written == wanted, "other bytes");
-    Ok(())
+    let course = Turns {
+        asked: &[QUESTIONS, LOGINS],
+        pace,
+        turns: 1,
+        times: 2000,
+        seen: None,
+        written: &[PERMISSIONS, PASSES],
+        bytes: 128,
+    };
+    runs_for_bob(&rt, course)
 }

@@ -1,6 +1,6 @@
 //! A server that has no seat for each worker.
 
-use crate::net::workers::{desk_of, key};
+use crate::net::support::{desk_of, key};
 use basics::Bytes;
 use std::alloc::{AllocError, Global};
 use std::net::{Ipv4Addr, Net, SocketAddr, TcpListener, TcpStream};
@@ -9,7 +9,7 @@ use std::test::Fail;
 use std::thread::Threads;
 use std::time::Clock;
 use tac_audit::Typist;
-use tac_forum::Limits;
+use tac_hall::Limits;
 use tac_hall_console::{Source, Unread, no_devices};
 use tac_journal::{LogFiles, Nowhere, Typists};
 use tac_net::{Callers, Idle, Listeners, Port, ServeFault, ServerFiles, Settings, serve};

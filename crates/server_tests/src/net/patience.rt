@@ -1,35 +1,23 @@
-//! When a device is given up, and how long is paused where none can be accepted, by a clock of the
-//! tests' own: no test waits.
+//! When a device is given up, by a clock of the tests' own: no test waits.
 
 use std::alloc::Global;
-use std::cell::{Cell, RefCell};
+use std::cell::Cell;
 use std::io::{self, ErrorKind, Read, Write};
 use std::net::{Ipv4Addr, SocketAddr};
 use std::time::{Clock, Duration};
-use tac_net::{Idle, Lead, PacketMemory, Pause, Peer, Socket, Visits, Way, accepted};
+use tac_net::{Idle, Lead, PacketMemory, Peer, Socket, Visits, Way};
 use tac_wire::{Door, Key};
-use tac_worker::End;
 
-/// A clock that a test sets, and that tells how long it was to sleep.
+/// A clock that a test sets.
 #[derive(Drop)]
 struct Set {
     milliseconds: Cell<u64>,
-    slept: RefCell<String>,
 }
 
 impl Set {
-    fn new(alloc: Global) -> Set {
+    fn new() -> Set {
         Set {
             milliseconds: Cell::new(0),
-            slept: RefCell::new(String::new(alloc)),
-        }
-    }
-
-    // Whether it was to sleep so many milliseconds, time after time.
-    fn has_slept(&self, wanted: &str) -> bool {
-        match self.slept.try_borrow() {
-            Ok(slept) => slept.as_str() == wanted,
-            Err(_) => false,
         }
     }
 }
@@ -43,11 +31,7 @@ impl Clock for Set {
         Ok(Duration::from_millis(self.milliseconds.get()))
     }
 
-    fn sleep(&self, duration: Duration) {
-        if let Ok(mut slept) = self.slept.try_borrow_mut() {
-            let _ = write!(*slept, "{} ", duration.as_millis());
-        }
-    }
+    fn sleep(&self, _duration: Duration) {}
 }
 
 /// A device that does what its letter says. To a read it is silent, `s`, or sends a byte, `b`, or
@@ -164,7 +148,7 @@ const FAIL_DELAY: u32 = 1_000;
 
 // Whether all steps go as they are to go, from a connection that is accepted at 0.
 fn is_borne(alloc: Global, idle: Idle, steps: &str) -> bool {
-    let clock = Set::new(alloc);
+    let clock = Set::new();
     let memory = PacketMemory::new(0);
     let visits = Visits::new();
     let device = Device {
@@ -232,49 +216,5 @@ fn devices(rt: HostRuntime) {
     for (idle, login, steps) in DEVICES {
         let idle = Idle { idle, login };
         assert!(rt; is_borne(rt.alloc(), idle, steps), "{idle:?}: {steps}");
-    }
-}
-
-// What comes of a wait for a connection: one, `k`, or none.
-fn came(letter: u8) -> io::Result<u8> {
-    if letter == b'k' {
-        return Ok(letter);
-    }
-    Err(io::Error::from(ErrorKind::Other))
-}
-
-// How it ended: with the connection, `k`, or as one that couldn't be read, `r`.
-fn ended(ended: Result<u8, End>) -> u8 {
-    match ended {
-        Ok(letter) => letter,
-        Err(End::ReadFault) => b'r',
-        Err(_) => b'?',
-    }
-}
-
-// Whether waits of which this comes, one after another, end so and have it sleep so.
-fn pauses(alloc: Global, course: &str, ends: &str, slept: &str) -> bool {
-    let clock = Set::new(alloc);
-    let mut pause = Pause::first();
-    for (letter, wanted) in course.bytes().zip(ends.bytes()) {
-        if ended(accepted(&clock, &mut pause, came(letter))) != wanted {
-            return false;
-        }
-    }
-    clock.has_slept(slept)
-}
-
-#[test]
-fn no_connections(rt: HostRuntime) {
-    let rows = [
-        ("kk", "kk", ""),
-        (
-            "ffffffffkfkff",
-            "rrrrrrrrkrkrr",
-            "50 100 200 400 800 1000 1000 1000 50 50 100 ",
-        ),
-    ];
-    for (course, ends, slept) in rows {
-        assert!(rt; pauses(rt.alloc(), course, ends, slept), "{course}");
     }
 }

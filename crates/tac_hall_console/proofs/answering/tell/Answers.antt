@@ -1,5 +1,5 @@
 use Rattle.std.proofs.Common.{refl}
-use Rattle.tac_hall.specs.Seat.{made_of}
+use Rattle.tac_hall.specs.View.{made_of}
 use Rattle.tac_hall_console.specs.Operated.{CallsFor, made, refused}
 use Rattle.tac_hall_console.proofs.CallFacts.{tells_ok, tells_err}
 use Rattle.tac_hall_console.proofs.answering.tell.Goals as goal

@@ -1,5 +1,5 @@
 use Rattle.std.proofs.Common.{◌≡◌, true, false, Some, None, sym}
-use Rattle.tac_hall.specs.Seat.{made_of}
+use Rattle.tac_hall.specs.View.{made_of}
 use Rattle.tac_hall.specs.declared.call.Call.TheVariants as calls
 use Rattle.tac_hall_console.specs.Operated.{Replaces, policy_question, policy_in, made, refused, barred, loaded, unloaded, no_user_line}
 use Rattle.tac_hall_console.specs.Users.{turnover, shuts_out}

@@ -1,5 +1,5 @@
 use Rattle.std.proofs.Common.{◌≡◌, length, All}
-use Rattle.tac_forum.specs.Seat.{IsFresh}
+use Rattle.tac_hall.specs.Seat.{IsFresh}
 use Rattle.tac_net.proofs.opening.places_of.Given as goal
 
 -- a place for each of what was taken

@@ -2,8 +2,8 @@ use denote.Param.{param}
 use denote.Param.Send.{IsSync, sendable}
 use Rattle.std.proofs.Common.{arith}
 use Rattle.std.proofs.Crossing.{crosses}
-use Rattle.tac_forum.specs.contracts.shared_desk.SharedDesk as SharedDesk
-use Rattle.tac_forum.proofs.shared_desk.SharedDesk.TheSendSync as shared
+use Rattle.tac_hall.specs.contracts.hall.Hall as Hall
+use Rattle.tac_hall.proofs.hall.Hall.TheSendSync as shared
 use Rattle.tac_net.specs.Connections.{HasServed}
 use Rattle.tac_net.proofs.Crossing.{Counts-sync, Hashing-sync, Intake-sync, Listeners-sync, Settings-sync, Vigil-sync}
 use Rattle.tac_net.proofs.FitFacts.{each_served_so}
@@ -15,7 +15,7 @@ use Rattle.tac_net.proofs.program.serve_places.Goals as goal
 pub map_vec-requires-sync-F : goal.map_vec-requires-sync-F
 map_vec-requires-sync-F g c κs within =
     let runtime = c.type_bounds.sync-R in
-    let desk : IsSync (SharedDesk.the_row (param 1 g.row.J) (param 2 g.row.D) g.J.Run g.D.Desk) = search (shared.the_sync, c.type_bounds.send-J, c.type_bounds.sync-J, c.type_bounds.send-D, crosses, sendable) depth 60 fits 20000 in
+    let desk : IsSync (Hall.the_row (param 1 g.row.J) (param 2 g.row.D) g.J.Run g.D.Desk) = search (shared.the_sync, c.type_bounds.send-J, c.type_bounds.sync-J, c.type_bounds.send-D, crosses, sendable) depth 60 fits 20000 in
     let log = c.type_bounds.sync-L in
     record {
       shared = λ d b o κ. (

@@ -2,7 +2,7 @@ use Rattle.std.proofs.Common.{Ok, Err, map, ◌∙◌}
 use Rattle.std.proofs.lemmas.List.{length-map}
 use Rattle.std.proofs.lemmas.List.Elements.{All-map}
 use Rattle.std.proofs.lemmas.Result.{err_from_is_err_and}
-use Rattle.tac_forum.specs.Seat.{IsFresh}
+use Rattle.tac_hall.specs.Seat.{IsFresh}
 use Rattle.tac_net.proofs.RunFacts.{ran, ran_out}
 use Rattle.tac_net.proofs.program.serve_run.Goals as goal
 use Rattle.tac_net.proofs.program.serve_run.Goals.{in-Ok-served, in-Err-served}

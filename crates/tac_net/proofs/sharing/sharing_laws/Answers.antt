@@ -1,7 +1,7 @@
 use Rattle.tac_net.proofs.ClearFacts.{clear_law}
 use Rattle.tac_net.proofs.SharedFacts.{piece_law, alone_law, alone_stream_law, sent_law, sent_stream_law}
 use Rattle.tac_net.proofs.ClosedFacts.{close_law}
-use Rattle.tac_net.proofs.PlacesFacts.{places_law, hall_places_law, receipt_places_law}
+use Rattle.tac_net.proofs.PlacesFacts.{places_law}
 use Rattle.tac_net.proofs.sharing.sharing_laws.Goals as goal
 
 pub returns-clause-shared : goal.returns-clause-shared
@@ -16,12 +16,6 @@ returns-clause-shared c = record {
 
 pub returns-clause-places : goal.returns-clause-places
 returns-clause-places c = places_law
-
-pub returns-clause-hall_places : goal.returns-clause-hall_places
-returns-clause-hall_places c = hall_places_law
-
-pub returns-clause-receipt_places : goal.returns-clause-receipt_places
-returns-clause-receipt_places c = receipt_places_law
 
 pub returns-clause-in_clear : goal.returns-clause-in_clear
 returns-clause-in_clear c = clear_law

@@ -11,7 +11,7 @@ returns-in-Err-clause-turned g c = λ was bytes taken n ready s.
 pub returns-in_ok-room-in-Reply-clause-turned : goal.returns-in_ok-room-in-Reply-clause-turned
 returns-in_ok-room-in-Reply-clause-turned g c = λ was bytes taken n ready s.
     turned_reply _ _ (notes_none g.C.Caller.rests g.met.C.Caller.rests_so) _ _ _ c.args.terms.now.door.now bytes taken (noting c.args.caller.now c.args.called.now) c.args.witness.now c.answer.new.witness _ _ c.args.stream.now c.in-Packet.packet c.in-Reply.reply c.in-Reply.closes c.answer.result
-    (rw (c.in-Ok.is, c.in-Packet.is, c.in-Reply.is) at (n.found bytes taken ready s)) c.answer.ensures.answers
+    (rw (c.in-Ok.is, c.in-Packet.is, c.in-Reply.is) at (n.found bytes taken ready s)) c.answer.ensures
     (rw (c.in-Ok.is, c.in-Packet.is, c.in-Reply.is) at n.closed) (rw (c.in-Ok.is, c.in-Packet.is, c.in-Reply.is) at (n.pending ready)) (rw (c.in-Ok.is, c.in-Packet.is) at (n.stands bytes taken ready s))
 
 pub returns-in_err-room-in-Reply-clause-turned : goal.returns-in_err-room-in-Reply-clause-turned
@@ -30,7 +30,7 @@ returns-in_ok-told-in-Asks-clause-turned g c = λ was bytes taken n ready s.
     let given = c.give-given.ensures in
     turned_answer _ _ (notes_none g.C.Caller.rests g.met.C.Caller.rests_so) _ _ _ c.args.terms.now.door.now bytes taken (noting c.args.caller.now c.args.called.now) (noting c.ask_by.new.caller c.ask_by.new.called) c.args.witness.now c.answer-in-Asks.new.witness _ _ c.give-given.new.self c.in-Packet.packet c.in-Asks.ask c.in-Asks.slot made.0 made.1 c.in_ok-told-in-Asks.told
     c.give-given.result c.answer-in-Asks.result
-    (rw (c.in-Ok.is, c.in-Packet.is, c.in-Asks.is) at (n.found bytes taken ready s)) (made.2, c.in_ok-told-in-Asks.ensures.called) given.reply c.answer-in-Asks.ensures.answers
+    (rw (c.in-Ok.is, c.in-Packet.is, c.in-Asks.is) at (n.found bytes taken ready s)) (made.2, c.in_ok-told-in-Asks.ensures.called) given.reply c.answer-in-Asks.ensures
     (given.closed (rw (c.in-Ok.is, c.in-Packet.is, c.in-Asks.is) at n.closed)) given.pending (given.stands c.args.terms.now.door.now bytes _ (rw (c.in-Ok.is, c.in-Packet.is) at (n.stands bytes taken ready s)))
 
 pub returns-in-Silent-clause-turned : goal.returns-in-Silent-clause-turned

@@ -1,5 +1,5 @@
-use Rattle.tac_forum.specs.Seat.{CatchesUp}
-use Rattle.tac_worker.specs.AtDesk.{MakesOne}
+use Rattle.tac_hall.specs.Seat.{CatchesUp}
+use Rattle.tac_worker.specs.AtHall.{MakesOne}
 use Rattle.tac_net.specs.Witness.{Takes, Refuses}
 use Rattle.tac_net.proofs.StandingFacts.{stands_served}
 use Rattle.tac_net.proofs.worker.Worker.go.Goals as goal

@@ -10,5 +10,4 @@ invariant_of-self g c = record {
   ahead = c.self.invariant.ahead;
   due = c.self.invariant.due;
   password = c.self.invariant.password;
-  whole = c.self.invariant.whole;
 }

@@ -1,4 +1,0 @@
-pub mod HistoryFacts
-pub mod LogFacts
-pub mod LockedFacts
-pub mod ClosingFacts

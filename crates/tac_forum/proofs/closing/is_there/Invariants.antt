@@ -1,6 +1,0 @@
-use Rattle.std.proofs.Common.{◌≡◌, drop}
-use Rattle.tac_forum.specs.Closing.{is_there}
-use Rattle.tac_forum.proofs.closing.is_there.Given as goal
-
-abbrev pub invariant-seats : goal.invariant-seats
-invariant-seats g l = is_there l.number (drop l.seat-index l.seats) ≡ is_there l.number l.seats

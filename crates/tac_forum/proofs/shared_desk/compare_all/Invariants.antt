@@ -1,7 +1,0 @@
-use Rattle.std.proofs.Common.{◌≡◌, All}
-use Rattle.tac_roll.specs.Roll.{Knows}
-use Rattle.tac_forum.proofs.shared_desk.compare_all.Given as goal
-
--- nothing has changed, and each seat so far has seen a beginning of the history
-abbrev pub invariant-seats : goal.invariant-seats
-invariant-seats g l = (l.locked ≡ l.initial.locked) × All (λ seat. Knows l.initial.locked.history seat.number seat.seen) l.yielded
