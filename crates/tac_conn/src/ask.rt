@@ -5,7 +5,7 @@ use basics::{Bytes, StructuralEq};
 use pol_names::{By, SubjectId};
 use std::alloc::AllocError;
 use tac_authen::Service;
-use tac_request::{Arguments, Record, Spare};
+use tac_request::{Arguments, Record};
 use tac_wire::Header;
 
 /// How a user proves to be the one named.
@@ -192,16 +192,6 @@ impl Answer {
                 Ok(Answer::Granted(arguments))
             }
             _ => self.small().ok_or(AllocError),
-        }
-    }
-
-    /// An equal one, in room that was taken before. Takes no memory.
-    pub fn copy_into(&self, spare: Spare) -> Answer
-        ensures { result ≡ self.now }
-    {
-        match self {
-            Answer::Granted(arguments) => Answer::Granted(arguments.copy_into(spare)),
-            _ => self.small().unwrap(),
         }
     }
 }

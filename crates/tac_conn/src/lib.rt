@@ -26,5 +26,5 @@ pub use sent::SENT_MAX;
 pub use sha_crypt::Hash;
 pub use step::Step;
 pub use tac_authen::Service;
-pub use tac_request::{AcctKind, Arguments, Record, Spare};
+pub use tac_request::{AcctKind, Arguments, Record};
 pub use typed::Typed;

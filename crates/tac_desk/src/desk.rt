@@ -12,8 +12,8 @@ ghost use Rattle.tac_desk.specs.Reporting as reporting;
 ghost use Rattle.tac_desk.specs.declared.query.QueryFault.TheVariants.{NoSuch};
 
 use crate::query::{Query, QueryFault, Report};
+use crate::shared::Shared;
 use crate::state::State;
-use crate::thrice::Thrice;
 use pol_edit::{BatchFault, Edit, EditFault};
 use pol_meaning::Changes;
 use pol_text::Policy;
@@ -52,7 +52,7 @@ pub trait Desk: Drop {
     /// Makes an edit, and answers what it changes for users. Refused as the edit is, and then where
     /// a subject of the new policy is too large, with the first such subject in its order. A
     /// refused edit changes nothing, also where memory ran out.
-    fn edit(&mut self, edit: &Edit) -> Result<Thrice<Changes>, EditFault>
+    fn edit(&mut self, edit: &Edit) -> Result<Shared<Changes>, EditFault>
         ensures found { UnlessMemory is_memory result
             (editing.Edits (meaning self.old) edit.now result (meaning self.new)) }
         ensures only { UnlessMemory is_memory result
@@ -68,7 +68,7 @@ pub trait Desk: Drop {
     /// number, and then where a subject of the last policy is too large, with the first such
     /// subject in its order. A policy in between may be too large. Refused edits change nothing,
     /// also where memory ran out. No edits at all are accepted, and change nothing.
-    fn edit_all(&mut self, edits: &[Edit]) -> Result<Thrice<Changes>, BatchFault>
+    fn edit_all(&mut self, edits: &[Edit]) -> Result<Shared<Changes>, BatchFault>
         ensures found { UnlessMemory ran_out result
             (editing.EditsAll (meaning self.old) edits.now result (meaning self.new)) }
         ensures only { UnlessMemory ran_out result
@@ -79,7 +79,7 @@ pub trait Desk: Drop {
     /// changes for users, as an edit would. Refused only where a subject of it is too large, with
     /// the first such subject in its order, or where memory ran out; then nothing changes. Records
     /// stay as they are.
-    fn load(&mut self, policy: &Policy) -> Result<Thrice<Changes>, EditFault>
+    fn load(&mut self, policy: &Policy) -> Result<Shared<Changes>, EditFault>
         ensures found { UnlessMemory is_memory result
             (editing.Loads (meaning self.old) policy.now result (meaning self.new)) }
         ensures only { UnlessMemory is_memory result
@@ -87,7 +87,7 @@ pub trait Desk: Drop {
         ensures err { OnErr result (meaning self.new ≡ meaning self.old) };
 
     /// Answers a question, and changes nothing.
-    fn query(&mut self, query: &Query) -> Result<Thrice<Report>, QueryFault>
+    fn query(&mut self, query: &Query) -> Result<Shared<Report>, QueryFault>
         ensures found { UnlessMemory reporting.is_memory result
             (reporting.Reports (meaning self.old) query.now result) }
         ensures only { UnlessMemory reporting.is_memory result
@@ -98,6 +98,10 @@ pub trait Desk: Drop {
         ensures sure { reporting.Reports (meaning self.old) query.now (Err NoSuch) →
             result ≡ Err NoSuch }
         ensures after { meaning self.new ≡ meaning self.old };
+
+    /// The present policy. It is lent, so this takes no memory.
+    fn policy(&self) -> &Policy
+        ensures { result.now ≡ (meaning self.now).policy };
 
     /// What the desk represents. The error means that memory ran out.
     fn state(&self) -> Result<State, AllocError>

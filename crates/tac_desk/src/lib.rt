@@ -5,11 +5,11 @@
 mod desk;
 mod numbered;
 mod query;
+mod shared;
 mod state;
-mod thrice;
 
 pub use desk::Desk;
 pub use numbered::Numbered;
 pub use query::{Query, QueryFault, Report};
+pub use shared::Shared;
 pub use state::State;
-pub use thrice::Thrice;

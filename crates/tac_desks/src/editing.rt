@@ -16,11 +16,11 @@ use pol_meaning::Changes;
 use pol_report::changes;
 use pol_text::Policy;
 use std::alloc::{AllocError, Global};
-use tac_desk::Thrice;
+use tac_desk::Shared;
 
 // Puts the prepared policy in place, and answers what that changes for users. All memory is taken
 // before that, so that a refusal changes nothing.
-fn take(alloc: Global, live: &mut Live, prepared: Prepared) -> Result<Thrice<Changes>, AllocError>
+fn take(alloc: Global, live: &mut Live, prepared: Prepared) -> Result<Shared<Changes>, AllocError>
     requires { prepared.before ≡ live.old }
     ensures found { IfOk result (λ changes. AreChanges live.old prepared.after changes) }
     ensures only { IfOk result (λ changes. (other : ChangesValue)
@@ -29,9 +29,9 @@ fn take(alloc: Global, live: &mut Live, prepared: Prepared) -> Result<Thrice<Cha
     ensures err { OnErr result (live.new ≡ live.old) }
 {
     let changes = changes(alloc, live, &prepared)?;
-    let thrice = Thrice::new(alloc, changes)?;
+    let shared = Shared::new(alloc, changes)?;
     live.commit(prepared);
-    Ok(thrice)
+    Ok(shared)
 }
 
 /// Makes the edits, all or none, and answers what they change together for users. Refused ones
@@ -40,7 +40,7 @@ pub(crate) fn change(
     alloc: Global,
     live: &mut Live,
     edits: &[Edit],
-) -> Result<Thrice<Changes>, BatchFault>
+) -> Result<Shared<Changes>, BatchFault>
     ensures found { (before : MeaningValue) → before.policy ≡ live.old →
         UnlessMemory ran_out result
         (editing.EditsAll before edits.now result (with_policy live.new before)) }
@@ -51,8 +51,8 @@ pub(crate) fn change(
 {
     let mut meter = Meter::new();
     let prepared = live.prepare_all(alloc, edits, &mut meter)?;
-    let thrice = take(alloc, live, prepared)?;
-    Ok(thrice)
+    let shared = take(alloc, live, prepared)?;
+    Ok(shared)
 }
 
 /// Puts another policy in the place of the present one, and answers what that changes for users.
@@ -61,7 +61,7 @@ pub(crate) fn load(
     alloc: Global,
     live: &mut Live,
     policy: &Policy,
-) -> Result<Thrice<Changes>, EditFault>
+) -> Result<Shared<Changes>, EditFault>
     ensures found { (before : MeaningValue) → before.policy ≡ live.old →
         UnlessMemory is_memory result
         (editing.Loads before policy.now result (with_policy live.new before)) }
@@ -73,6 +73,6 @@ pub(crate) fn load(
     let mut meter = Meter::new();
     let copy = policy.copy(alloc)?;
     let prepared = live.prepare_policy(alloc, copy, &mut meter)?;
-    let thrice = take(alloc, live, prepared)?;
-    Ok(thrice)
+    let shared = take(alloc, live, prepared)?;
+    Ok(shared)
 }

@@ -36,7 +36,7 @@ use std::alloc::{AllocError, Global};
 use std::marker::Model;
 use std::slice;
 use tac_conn::{Answer, Ask, Hash};
-use tac_desk::{Desk, Query, QueryFault, Report, State, Thrice};
+use tac_desk::{Desk, Query, QueryFault, Report, Shared, State};
 use tac_tally::{Book, Record, RecordLimit};
 
 /// A desk that keeps the automata of its policy, the decisions on the lines that were asked last,
@@ -248,7 +248,7 @@ impl Desk for LiveDesk {
         hash_for(self.live.policy(), ask)
     }
 
-    fn edit(&mut self, edit: &Edit) -> Result<Thrice<Changes>, EditFault>
+    fn edit(&mut self, edit: &Edit) -> Result<Shared<Changes>, EditFault>
         ensures found { UnlessMemory applying.is_memory result
             (editing.Edits self.old.meaning edit.now result self.new.meaning) }
         ensures only { UnlessMemory applying.is_memory result
@@ -264,7 +264,7 @@ impl Desk for LiveDesk {
             .map_err(|refusal| refusal.fault)
     }
 
-    fn edit_all(&mut self, edits: &[Edit]) -> Result<Thrice<Changes>, BatchFault>
+    fn edit_all(&mut self, edits: &[Edit]) -> Result<Shared<Changes>, BatchFault>
         ensures found { UnlessMemory ran_out result
             (editing.EditsAll self.old.meaning edits.now result self.new.meaning) }
         ensures only { UnlessMemory ran_out result
@@ -276,7 +276,7 @@ impl Desk for LiveDesk {
             self.old.meter self.new.meter) }
         ensures kept { OnErr result (self.old.meter ≤ self.new.meter) }
     {
-        let thrice = change_kept(
+        let shared = change_kept(
             self.alloc,
             &mut self.live,
             &mut self.meter,
@@ -284,10 +284,10 @@ impl Desk for LiveDesk {
             edits,
         )?;
         self.remembered.clear();
-        Ok(thrice)
+        Ok(shared)
     }
 
-    fn load(&mut self, policy: &Policy) -> Result<Thrice<Changes>, EditFault>
+    fn load(&mut self, policy: &Policy) -> Result<Shared<Changes>, EditFault>
         ensures found { UnlessMemory applying.is_memory result
             (editing.Loads self.old.meaning policy.now result self.new.meaning) }
         ensures only { UnlessMemory applying.is_memory result
@@ -300,7 +300,7 @@ impl Desk for LiveDesk {
             self.old.meter self.new.meter) }
         ensures kept { OnErr result (self.old.meter ≤ self.new.meter) }
     {
-        let thrice = load_kept(
+        let shared = load_kept(
             self.alloc,
             &mut self.live,
             &mut self.meter,
@@ -308,11 +308,11 @@ impl Desk for LiveDesk {
             policy,
         )?;
         self.remembered.clear();
-        Ok(thrice)
+        Ok(shared)
     }
 
     #[tactic(auto, using(crate::proofs::Reports::kind))]
-    fn query(&mut self, query: &Query) -> Result<Thrice<Report>, QueryFault>
+    fn query(&mut self, query: &Query) -> Result<Shared<Report>, QueryFault>
         ensures found { UnlessMemory reporting.is_memory result
             (reporting.Reports self.old.meaning query.now result) }
         ensures only { UnlessMemory reporting.is_memory result
@@ -325,8 +325,12 @@ impl Desk for LiveDesk {
         ensures meter { self.new.meter ≡ self.old.meter }
     {
         let report = self.report(query)?;
-        let thrice = Thrice::new(self.alloc, report)?;
-        Ok(thrice)
+        let shared = Shared::new(self.alloc, report)?;
+        Ok(shared)
+    }
+
+    fn policy(&self) -> &Policy {
+        self.live.policy()
     }
 
     fn state(&self) -> Result<State, AllocError> {

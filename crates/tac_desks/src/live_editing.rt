@@ -22,7 +22,7 @@ use pol_meaning::Changes;
 use pol_report::changes;
 use pol_text::Policy;
 use std::alloc::{AllocError, Global};
-use tac_desk::Thrice;
+use tac_desk::Shared;
 use tac_tally::{Book, Recount};
 
 // Puts the prepared policy in place, and the marks in that were worked out for it. Takes no memory.
@@ -47,7 +47,7 @@ fn take(
     live: &mut Live,
     book: &mut Book,
     prepared: Prepared,
-) -> Result<Thrice<Changes>, AllocError>
+) -> Result<Shared<Changes>, AllocError>
     requires before { prepared.before ≡ live.old }
     requires marks { HasMarksBy live.old book.old }
     ensures found { IfOk result (λ changes. AreChanges live.old prepared.after changes) }
@@ -61,10 +61,10 @@ fn take(
     ensures marks { HasMarksBy live.new book.new }
 {
     let changes = changes(alloc, live, &prepared)?;
-    let thrice = Thrice::new(alloc, changes)?;
-    let recount = recount_changed(alloc, &prepared, thrice.first.lines.as_slice(), book)?;
+    let shared = Shared::new(alloc, changes)?;
+    let recount = recount_changed(alloc, &prepared, shared.get().lines.as_slice(), book)?;
     make(live, book, prepared, recount);
-    Ok(thrice)
+    Ok(shared)
 }
 
 /// Makes the edits, all or none, and answers what they change together for users. Beside each
@@ -75,7 +75,7 @@ pub(crate) fn change_kept(
     meter: &mut Meter,
     book: &mut Book,
     edits: &[Edit],
-) -> Result<Thrice<Changes>, BatchFault>
+) -> Result<Shared<Changes>, BatchFault>
     requires { HasMarksBy live.old book.old }
     ensures found { UnlessMemory ran_out result (editing.EditsAll (meaning_of live.old book.old)
         edits.now result (meaning_of live.new book.new)) }
@@ -89,8 +89,8 @@ pub(crate) fn change_kept(
     ensures kept { OnErr result (meter.old.total ≤ meter.new.total) }
 {
     let prepared = live.prepare_all(alloc, edits, meter)?;
-    let thrice = take(alloc, live, book, prepared)?;
-    Ok(thrice)
+    let shared = take(alloc, live, book, prepared)?;
+    Ok(shared)
 }
 
 /// Puts another policy in the place of the present one, and answers what that changes for users.
@@ -102,7 +102,7 @@ pub(crate) fn load_kept(
     meter: &mut Meter,
     book: &mut Book,
     policy: &Policy,
-) -> Result<Thrice<Changes>, EditFault>
+) -> Result<Shared<Changes>, EditFault>
     requires { HasMarksBy live.old book.old }
     ensures found { UnlessMemory is_memory result (editing.Loads (meaning_of live.old book.old)
         policy.now result (meaning_of live.new book.new)) }
@@ -117,6 +117,6 @@ pub(crate) fn load_kept(
 {
     let copy = policy.copy(alloc)?;
     let prepared = live.prepare_policy(alloc, copy, meter)?;
-    let thrice = take(alloc, live, book, prepared)?;
-    Ok(thrice)
+    let shared = take(alloc, live, book, prepared)?;
+    Ok(shared)
 }

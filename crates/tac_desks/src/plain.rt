@@ -25,7 +25,7 @@ use pol_text::Policy;
 use std::alloc::{AllocError, Global};
 use std::marker::Model;
 use tac_conn::{Answer, Ask, Hash};
-use tac_desk::{Desk, Query, QueryFault, Report, State, Thrice};
+use tac_desk::{Desk, Query, QueryFault, Report, Shared, State};
 use tac_tally::{Book, Record, RecordLimit};
 
 /// A desk that keeps the policy and the records, and nothing that follows from them: each ask
@@ -185,14 +185,14 @@ impl Desk for PlainDesk {
         hash_for(&self.policy, ask)
     }
 
-    fn edit_all(&mut self, edits: &[Edit]) -> Result<Thrice<Changes>, BatchFault> {
+    fn edit_all(&mut self, edits: &[Edit]) -> Result<Shared<Changes>, BatchFault> {
         let mut live = live_policy(self.alloc, &self.policy)?;
         let changes = change(self.alloc, &mut live, edits)?;
         self.policy = live.into_policy();
         Ok(changes)
     }
 
-    fn load(&mut self, policy: &Policy) -> Result<Thrice<Changes>, EditFault> {
+    fn load(&mut self, policy: &Policy) -> Result<Shared<Changes>, EditFault> {
         let mut live = live_policy(self.alloc, &self.policy)?;
         let changes = load(self.alloc, &mut live, policy)?;
         self.policy = live.into_policy();
@@ -200,10 +200,14 @@ impl Desk for PlainDesk {
     }
 
     #[tactic(auto, using(crate::proofs::Reports::kind))]
-    fn query(&mut self, query: &Query) -> Result<Thrice<Report>, QueryFault> {
+    fn query(&mut self, query: &Query) -> Result<Shared<Report>, QueryFault> {
         let report = self.report(query)?;
-        let thrice = Thrice::new(self.alloc, report)?;
-        Ok(thrice)
+        let shared = Shared::new(self.alloc, report)?;
+        Ok(shared)
+    }
+
+    fn policy(&self) -> &Policy {
+        &self.policy
     }
 
     fn state(&self) -> Result<State, AllocError> {

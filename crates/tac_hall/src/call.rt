@@ -2,13 +2,12 @@
 
 ghost use Rattle.std.specs.Prelude.{◌≡◌};
 
-use crate::shared::Shared;
 use basics::Sequence;
 use pol_edit::{BatchFault, Edit, EditFault};
 use pol_meaning::Changes;
 use pol_text::Policy;
 use tac_conn::{Answer, Ask};
-use tac_desk::{Query, QueryFault, Report};
+use tac_desk::{Query, QueryFault, Report, Shared};
 
 /// What a seat may call at its hall. Each call is answered before the next is taken.
 pub enum Call {

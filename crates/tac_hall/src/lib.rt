@@ -14,7 +14,6 @@ mod receipt;
 mod room;
 mod run;
 mod seat;
-mod shared;
 
 pub use call::{Call, CallAnswer};
 pub use closing::Settled;
@@ -27,4 +26,3 @@ pub use receipt::Receipt;
 pub use room::{MAX_SEATS, Room};
 pub use run::Run;
 pub use seat::Seat;
-pub use shared::Shared;

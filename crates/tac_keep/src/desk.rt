@@ -20,7 +20,7 @@ use pol_meaning::Changes;
 use pol_text::Policy;
 use std::alloc::AllocError;
 use tac_conn::{Answer, Ask, Hash};
-use tac_desk::{Desk, Query, QueryFault, Report, State, Thrice};
+use tac_desk::{Desk, Query, QueryFault, Report, Shared, State};
 
 /// Another desk, which is asked and edited as that one is. After each accepted edit it hands over
 /// what its policy is printed as, within the call, so that is the policy at this place of the
@@ -58,7 +58,7 @@ impl<P: Printer, T: HandOver, D: Desk> KeptDesk<P, T, D> {
         ensures desk { D.meaning self.new.desk ≡ D.meaning self.old.desk }
         ensures printer { self.new.printer ≡ self.old.printer }
     {
-        match self.printer.print(&mut self.desk) {
+        match self.printer.print(self.desk.policy()) {
             Ok(text) => {
                 self.is_unprinted = false;
                 self.tray.hand_over(Wanted::Text(text));
@@ -77,7 +77,7 @@ impl<P: Printer, T: HandOver, D: Desk> KeptDesk<P, T, D> {
         ensures desk { D.meaning self.new.desk ≡ D.meaning self.old.desk }
         ensures printer { self.new.printer ≡ self.old.printer }
     {
-        if let Ok(text) = self.printer.print(&mut self.desk) {
+        if let Ok(text) = self.printer.print(self.desk.policy()) {
             self.is_unprinted = false;
             self.tray.hand_over(Wanted::Text(text));
         }
@@ -107,7 +107,7 @@ impl<P: Printer, T: HandOver, D: Desk> Desk for KeptDesk<P, T, D> {
         self.desk.hash(ask)
     }
 
-    fn edit(&mut self, edit: &Edit) -> Result<Thrice<Changes>, EditFault>
+    fn edit(&mut self, edit: &Edit) -> Result<Shared<Changes>, EditFault>
         ensures found { UnlessMemory is_memory result (editing.Edits (D.meaning self.old.desk)
             edit.now result (D.meaning self.new.desk)) }
         ensures only { UnlessMemory is_memory result (editing.IsOnly (D.meaning self.old.desk)
@@ -126,7 +126,7 @@ impl<P: Printer, T: HandOver, D: Desk> Desk for KeptDesk<P, T, D> {
         edited
     }
 
-    fn edit_all(&mut self, edits: &[Edit]) -> Result<Thrice<Changes>, BatchFault>
+    fn edit_all(&mut self, edits: &[Edit]) -> Result<Shared<Changes>, BatchFault>
         ensures found { UnlessMemory ran_out result (editing.EditsAll (D.meaning self.old.desk)
             edits.now result (D.meaning self.new.desk)) }
         ensures only { UnlessMemory ran_out result (editing.IsOnlyAll (D.meaning self.old.desk)
@@ -145,7 +145,7 @@ impl<P: Printer, T: HandOver, D: Desk> Desk for KeptDesk<P, T, D> {
         edited
     }
 
-    fn load(&mut self, policy: &Policy) -> Result<Thrice<Changes>, EditFault>
+    fn load(&mut self, policy: &Policy) -> Result<Shared<Changes>, EditFault>
         ensures found { UnlessMemory is_memory result (editing.Loads (D.meaning self.old.desk)
             policy.now result (D.meaning self.new.desk)) }
         ensures only { UnlessMemory is_memory result
@@ -165,7 +165,7 @@ impl<P: Printer, T: HandOver, D: Desk> Desk for KeptDesk<P, T, D> {
         loaded
     }
 
-    fn query(&mut self, query: &Query) -> Result<Thrice<Report>, QueryFault>
+    fn query(&mut self, query: &Query) -> Result<Shared<Report>, QueryFault>
         ensures found { UnlessMemory reporting.is_memory result
             (reporting.Reports (D.meaning self.old.desk) query.now result) }
         ensures only { UnlessMemory reporting.is_memory result
@@ -186,6 +186,10 @@ impl<P: Printer, T: HandOver, D: Desk> Desk for KeptDesk<P, T, D> {
             self.hand_over_late();
         }
         self.desk.query(query)
+    }
+
+    fn policy(&self) -> &Policy {
+        self.desk.policy()
     }
 
     fn state(&self) -> Result<State, AllocError> {

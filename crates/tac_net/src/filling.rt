@@ -18,7 +18,7 @@ use pol_meaning::Changes;
 use pol_text::Policy;
 use std::alloc::AllocError;
 use tac_conn::{Answer, Ask, Hash};
-use tac_desk::{Desk, Query, QueryFault, Report, State, Thrice};
+use tac_desk::{Desk, Query, QueryFault, Report, Shared, State};
 use tac_tally::RecordLimit;
 
 /// Another desk, which is asked and edited as that one is. Where its limit refuses records,
@@ -99,7 +99,7 @@ impl<R: Eprint, D: Desk> Desk for FillingDesk<'_, R, D> {
         self.desk.hash(ask)
     }
 
-    fn edit(&mut self, edit: &Edit) -> Result<Thrice<Changes>, EditFault>
+    fn edit(&mut self, edit: &Edit) -> Result<Shared<Changes>, EditFault>
         ensures found { UnlessMemory is_memory result (editing.Edits (D.meaning self.old.desk)
             edit.now result (D.meaning self.new.desk)) }
         ensures only { UnlessMemory is_memory result (editing.IsOnly (D.meaning self.old.desk)
@@ -110,7 +110,7 @@ impl<R: Eprint, D: Desk> Desk for FillingDesk<'_, R, D> {
         self.desk.edit(edit)
     }
 
-    fn edit_all(&mut self, edits: &[Edit]) -> Result<Thrice<Changes>, BatchFault>
+    fn edit_all(&mut self, edits: &[Edit]) -> Result<Shared<Changes>, BatchFault>
         ensures found { UnlessMemory ran_out result (editing.EditsAll (D.meaning self.old.desk)
             edits.now result (D.meaning self.new.desk)) }
         ensures only { UnlessMemory ran_out result (editing.IsOnlyAll (D.meaning self.old.desk)
@@ -121,7 +121,7 @@ impl<R: Eprint, D: Desk> Desk for FillingDesk<'_, R, D> {
         self.desk.edit_all(edits)
     }
 
-    fn load(&mut self, policy: &Policy) -> Result<Thrice<Changes>, EditFault>
+    fn load(&mut self, policy: &Policy) -> Result<Shared<Changes>, EditFault>
         ensures found { UnlessMemory is_memory result (editing.Loads (D.meaning self.old.desk)
             policy.now result (D.meaning self.new.desk)) }
         ensures only { UnlessMemory is_memory result
@@ -133,7 +133,7 @@ impl<R: Eprint, D: Desk> Desk for FillingDesk<'_, R, D> {
         self.desk.load(policy)
     }
 
-    fn query(&mut self, query: &Query) -> Result<Thrice<Report>, QueryFault>
+    fn query(&mut self, query: &Query) -> Result<Shared<Report>, QueryFault>
         ensures found { UnlessMemory reporting.is_memory result
             (reporting.Reports (D.meaning self.old.desk) query.now result) }
         ensures only { UnlessMemory reporting.is_memory result
@@ -146,6 +146,10 @@ impl<R: Eprint, D: Desk> Desk for FillingDesk<'_, R, D> {
         ensures gauge { self.new.gauge ≡ self.old.gauge }
     {
         self.desk.query(query)
+    }
+
+    fn policy(&self) -> &Policy {
+        self.desk.policy()
     }
 
     fn state(&self) -> Result<State, AllocError> {

@@ -12,11 +12,6 @@ use itoa::Buffer;
 use std::alloc::{AllocError, Global};
 use std::marker::Model;
 
-// The most arguments, as one byte counts them, and the most bytes of all.
-const COUNT_MAX: usize = 255;
-
-const JOINED_MAX: usize = 65025;
-
 /// Arguments, at most 255 of at most 255 bytes each, as they lie in a body (RFC 8907, section 6.2):
 /// their lengths, and then they themselves. A contract sees the list of them.
 #[derive(Debug)]
@@ -55,34 +50,6 @@ fn put(bytes: &mut Vec<u8>, more: &[u8])
     ensures { bytes.new.items ≡ bytes.old.items ++ more.now }
 {
     bytes.extend_from_slice(more).unwrap();
-}
-
-/// Room for a copy of any arguments.
-#[derive(Drop)]
-pub struct Spare {
-    lengths: Vec<u8>,
-    joined: Vec<u8>,
-}
-
-impl Model for Spare {
-    ghost use Rattle.std.specs.Prelude.{◌≡◌, ◌≤◌, [], vec_len, vec_capacity};
-
-    ghost Value = { Unit {0} };
-
-    ghost view = { λ _. tt };
-
-    ghost invariant = { λ spare. (spare.lengths.items ≡ []) × (spare.joined.items ≡ [])
-        × (vec_len spare.lengths ≡ 0) × (vec_len spare.joined ≡ 0)
-        × (255 ≤ vec_capacity spare.lengths) × (65025 ≤ vec_capacity spare.joined) };
-}
-
-impl Spare {
-    /// Takes the room. The error means that memory ran out.
-    pub fn new(alloc: Global) -> Result<Spare, AllocError> {
-        let lengths = Vec::with_capacity(alloc, COUNT_MAX)?;
-        let joined = Vec::with_capacity(alloc, JOINED_MAX)?;
-        Ok(Spare { lengths, joined })
-    }
 }
 
 impl Arguments {
@@ -156,20 +123,6 @@ impl Arguments {
         ensures { IfOk result (λ list. list ≡ self.now) }
     {
         tac_wire::cut(alloc, self.lengths.as_slice(), self.joined.as_slice())
-    }
-
-    /// A copy of them, in room that was taken before. Takes no memory.
-    pub fn copy_into(&self, spare: Spare) -> Arguments
-        ensures { result ≡ self.now }
-    {
-        let (first, rest) = self.parts();
-        let Spare {
-            mut lengths,
-            mut joined,
-        } = spare;
-        put(&mut lengths, first);
-        put(&mut joined, rest);
-        Arguments { lengths, joined }
     }
 }
 

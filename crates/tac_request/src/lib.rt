@@ -14,7 +14,7 @@ mod record;
 pub use acct_reply::{AcctReply, AcctStatus, read_acct_reply, write_acct_reply};
 pub use acct_request::{AcctRequest, read_acct_request};
 pub use argument::{Arg, split_arg};
-pub use arguments::{Arguments, ReplyArguments, Spare, level_argument};
+pub use arguments::{Arguments, ReplyArguments, level_argument};
 pub use author_reply::{
     AUTHOR_REPLY_MAX, AuthorReply, AuthorStatus, read_author_reply, write_author_reply,
 };

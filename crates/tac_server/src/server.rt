@@ -228,7 +228,7 @@ impl<D: Desk> Server<D> {
         ensures batch { self.new.batch ≡ self.old.batch }
     {
         match self.desk.edit(edit) {
-            Ok(changes) => match write_edit_answer(self.alloc, out, &Ok(&changes.first)) {
+            Ok(changes) => match write_edit_answer(self.alloc, out, &Ok(changes.get())) {
                 Ok(()) => Ok(()),
                 Err(_) => Err(ServerFault::Memory { accepted: true }),
             },
@@ -249,7 +249,7 @@ impl<D: Desk> Server<D> {
         ensures batch { self.new.batch ≡ self.old.batch }
     {
         match self.desk.edit_all(edits) {
-            Ok(changes) => match write_batch_answer(self.alloc, out, &Ok(&changes.first)) {
+            Ok(changes) => match write_batch_answer(self.alloc, out, &Ok(changes.get())) {
                 Ok(()) => Ok(()),
                 Err(_) => Err(ServerFault::Memory { accepted: true }),
             },
@@ -273,7 +273,7 @@ impl<D: Desk> Server<D> {
     {
         match self.desk.query(query) {
             Ok(report) => {
-                write_query_answer(self.alloc, out, query, &Ok(&report.first))?;
+                write_query_answer(self.alloc, out, query, &Ok(report.get()))?;
                 Ok(())
             }
             Err(QueryFault::Memory) => Err(ServerFault::Memory { accepted: false }),

@@ -80,7 +80,7 @@ fn warn_of_nobody<R: Eprint>(rt: &R, path: &str, desk: &mut LiveDesk) {
     let Ok(report) = desk.query(&Query::Policy) else {
         return;
     };
-    if let Report::Policy(policy) = &*report.first {
+    if let Report::Policy(policy) = report.get() {
         if !has_user(policy) {
             let _ = eprintln!(rt; "tacd: {path}: the policy has no user: nobody can log in");
         }

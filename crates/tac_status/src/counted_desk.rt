@@ -8,7 +8,7 @@ use pol_meaning::Changes;
 use pol_text::Policy;
 use std::alloc::AllocError;
 use tac_conn::{Answer, Ask, Hash};
-use tac_desk::{Desk, Query, QueryFault, Report, State, Thrice};
+use tac_desk::{Desk, Query, QueryFault, Report, Shared, State};
 use tac_tally::{AtLimit, RecordLimit};
 
 /// Another desk, which is asked and edited as that one is. What it has, and how often it was
@@ -32,12 +32,11 @@ fn after_one_more(limit: RecordLimit, records: u64) -> u64 {
 }
 
 impl<'a, D: Desk> CountedDesk<'a, D> {
-    /// This desk, which has no records yet, and this limit to them. The policy is counted where
-    /// there is memory for a copy of it.
+    /// This desk, which has no records yet, and this limit to them.
     pub fn new(desk: D, counts: &'a DeskCounts, limit: RecordLimit) -> CountedDesk<'a, D>
         ensures { D.meaning result.desk ≡ D.meaning desk }
     {
-        let mut counted = CountedDesk {
+        let counted = CountedDesk {
             desk,
             counts,
             limit,
@@ -47,21 +46,13 @@ impl<'a, D: Desk> CountedDesk<'a, D> {
         counted
     }
 
-    // Counts what the policy has, where there is memory for a copy of it.
-    fn see_policy(&mut self)
-        ensures { D.meaning self.new.desk ≡ D.meaning self.old.desk }
-    {
-        if let Ok(thrice) = self.desk.query(&Query::Policy) {
-            if let Report::Policy(policy) = &*thrice.first {
-                self.counts.see(policy);
-            }
-        }
+    // Counts what the policy has.
+    fn see_policy(&self) {
+        self.counts.see(self.desk.policy());
     }
 
     // So many edits were made.
-    fn count_edits(&mut self, edits: usize)
-        ensures { D.meaning self.new.desk ≡ D.meaning self.old.desk }
-    {
+    fn count_edits(&self, edits: usize) {
         self.counts.edit(edits as u64);
         self.see_policy();
     }
@@ -90,7 +81,7 @@ impl<D: Desk> Desk for CountedDesk<'_, D> {
         self.desk.hash(ask)
     }
 
-    fn edit(&mut self, edit: &Edit) -> Result<Thrice<Changes>, EditFault> {
+    fn edit(&mut self, edit: &Edit) -> Result<Shared<Changes>, EditFault> {
         let edited = self.desk.edit(edit);
         if edited.is_ok() {
             self.count_edits(1);
@@ -98,7 +89,7 @@ impl<D: Desk> Desk for CountedDesk<'_, D> {
         edited
     }
 
-    fn edit_all(&mut self, edits: &[Edit]) -> Result<Thrice<Changes>, BatchFault> {
+    fn edit_all(&mut self, edits: &[Edit]) -> Result<Shared<Changes>, BatchFault> {
         let edited = self.desk.edit_all(edits);
         if edited.is_ok() {
             self.count_edits(edits.len());
@@ -106,7 +97,7 @@ impl<D: Desk> Desk for CountedDesk<'_, D> {
         edited
     }
 
-    fn load(&mut self, policy: &Policy) -> Result<Thrice<Changes>, EditFault> {
+    fn load(&mut self, policy: &Policy) -> Result<Shared<Changes>, EditFault> {
         let loaded = self.desk.load(policy);
         if loaded.is_ok() {
             self.counts.reload();
@@ -115,8 +106,12 @@ impl<D: Desk> Desk for CountedDesk<'_, D> {
         loaded
     }
 
-    fn query(&mut self, query: &Query) -> Result<Thrice<Report>, QueryFault> {
+    fn query(&mut self, query: &Query) -> Result<Shared<Report>, QueryFault> {
         self.desk.query(query)
+    }
+
+    fn policy(&self) -> &Policy {
+        self.desk.policy()
     }
 
     fn state(&self) -> Result<State, AllocError> {

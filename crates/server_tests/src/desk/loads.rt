@@ -25,7 +25,7 @@ fn answer<D: Desk>(
     out: &mut Vec<u8>,
 ) -> Result<(), AllocError> {
     match desk.load(policy) {
-        Ok(changes) => write_edit_answer(alloc, out, &Ok(&changes.first)),
+        Ok(changes) => write_edit_answer(alloc, out, &Ok(changes.get())),
         Err(fault) => write_edit_answer(alloc, out, &Err(fault)),
     }
 }

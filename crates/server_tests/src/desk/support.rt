@@ -22,15 +22,15 @@ pub(crate) fn console<D: Desk>(
     let asked = read_console(alloc, line)?;
     match batch.take(alloc, asked)? {
         Action::Edit(edit) => match desk.edit(&edit) {
-            Ok(changes) => write_edit_answer(alloc, out, &Ok(&changes.first)),
+            Ok(changes) => write_edit_answer(alloc, out, &Ok(changes.get())),
             Err(fault) => write_edit_answer(alloc, out, &Err(fault)),
         },
         Action::Commit(edits) => match desk.edit_all(edits.as_slice()) {
-            Ok(changes) => write_batch_answer(alloc, out, &Ok(&changes.first)),
+            Ok(changes) => write_batch_answer(alloc, out, &Ok(changes.get())),
             Err(fault) => write_batch_answer(alloc, out, &Err(fault)),
         },
         Action::Query(query) => match desk.query(&query) {
-            Ok(report) => write_query_answer(alloc, out, &query, &Ok(&report.first)),
+            Ok(report) => write_query_answer(alloc, out, &query, &Ok(report.get())),
             Err(fault) => write_query_answer(alloc, out, &query, &Err(fault)),
         },
         Action::Tell(notice) => write_notice(alloc, out, notice),

@@ -8,7 +8,7 @@ use pol_text::Policy;
 use std::alloc::{AllocError, Global};
 use std::marker::Model;
 use tac_conn::{Answer, Ask, Hash};
-use tac_desk::{Desk, Query, QueryFault, Report, State, Thrice};
+use tac_desk::{Desk, Query, QueryFault, Report, Shared, State};
 use tac_desks::{BuildFault, PlainDesk};
 
 /// Never has a record, though its limit is nine. A contract sees the desk inside.
@@ -53,19 +53,23 @@ impl Desk for Starved {
         self.inner.hash(ask)
     }
 
-    fn edit_all(&mut self, _edits: &[Edit]) -> Result<Thrice<Changes>, BatchFault> {
+    fn edit_all(&mut self, _edits: &[Edit]) -> Result<Shared<Changes>, BatchFault> {
         Err(BatchFault::of_all(EditFault::Memory))
     }
 
-    fn load(&mut self, _policy: &Policy) -> Result<Thrice<Changes>, EditFault> {
+    fn load(&mut self, _policy: &Policy) -> Result<Shared<Changes>, EditFault> {
         Err(EditFault::Memory)
     }
 
-    fn query(&mut self, query: &Query) -> Result<Thrice<Report>, QueryFault> {
+    fn query(&mut self, query: &Query) -> Result<Shared<Report>, QueryFault> {
         match query {
             Query::Records => Err(QueryFault::Memory),
             _ => self.inner.query(query),
         }
+    }
+
+    fn policy(&self) -> &Policy {
+        self.inner.policy()
     }
 
     fn state(&self) -> Result<State, AllocError> {

@@ -13,5 +13,5 @@ returns-in_err-prepared-clause-only c before same =
 pub returns-clause-only : goal.returns-clause-only
 returns-clause-only c before same =
     let made = c.in_ok-prepared.ensures in
-    rw c.in_ok-thrice.ensures.taken
-    (accepted_only before c.args.edits.now c.in_ok-prepared.prepared c.in_ok-thrice.thrice (rw same made.found) (rw same made.only) (rw same c.in_ok-thrice.ensures.only))
+    rw c.in_ok-shared.ensures.taken
+    (accepted_only before c.args.edits.now c.in_ok-prepared.prepared c.in_ok-shared.shared (rw same made.found) (rw same made.only) (rw same c.in_ok-shared.ensures.only))

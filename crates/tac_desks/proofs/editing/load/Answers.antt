@@ -13,5 +13,5 @@ pub returns-clause-only : goal.returns-clause-only
 returns-clause-only c before is =
     let made = c.in_ok-prepared.ensures in
     let same = c.in_ok-copy.ensures.same in
-    rw c.in_ok-thrice.ensures.taken
-    (accepted_loaded before c.args.policy.now c.in_ok-prepared.prepared c.in_ok-thrice.thrice (rw is (rw same at (made.found))) (rw is (rw same at (made.only))) (rw is c.in_ok-thrice.ensures.only))
+    rw c.in_ok-shared.ensures.taken
+    (accepted_loaded before c.args.policy.now c.in_ok-prepared.prepared c.in_ok-shared.shared (rw is (rw same at (made.found))) (rw is (rw same at (made.only))) (rw is c.in_ok-shared.ensures.only))

@@ -16,9 +16,9 @@ pub returns-clause-only : goal.returns-clause-only
 returns-clause-only c =
     let before = meaning_of c.args.live.now c.args.book.now in
     let made = c.in_ok-prepared.ensures in
-    rw c.in_ok-thrice.ensures.meaning
-    (accepted_only before c.args.edits.now c.in_ok-prepared.prepared c.in_ok-thrice.thrice made.found made.only c.in_ok-thrice.ensures.only)
+    rw c.in_ok-shared.ensures.meaning
+    (accepted_only before c.args.edits.now c.in_ok-prepared.prepared c.in_ok-shared.shared made.found made.only c.in_ok-shared.ensures.only)
 
-pub returns-in_err-thrice-clause-kept : goal.returns-in_err-thrice-clause-kept
-returns-in_err-thrice-clause-kept c =
-    risen c.from_residual-in_err-thrice.result _ c.args.meter.now.total c.prepare_all.new.meter.total c.args.meter.now.fits c.in_ok-prepared.ensures.rises
+pub returns-in_err-shared-clause-kept : goal.returns-in_err-shared-clause-kept
+returns-in_err-shared-clause-kept c =
+    risen c.from_residual-in_err-shared.result _ c.args.meter.now.total c.prepare_all.new.meter.total c.args.meter.now.fits c.in_ok-prepared.ensures.rises

@@ -16,9 +16,9 @@ returns-clause-only c =
     let before = meaning_of c.args.live.now c.args.book.now in
     let made = c.in_ok-prepared.ensures in
     let same = c.in_ok-copy.ensures.same in
-    rw c.in_ok-thrice.ensures.meaning
-    (accepted_loaded before c.args.policy.now c.in_ok-prepared.prepared c.in_ok-thrice.thrice (rw same at (made.found)) (rw same at (made.only)) c.in_ok-thrice.ensures.only)
+    rw c.in_ok-shared.ensures.meaning
+    (accepted_loaded before c.args.policy.now c.in_ok-prepared.prepared c.in_ok-shared.shared (rw same at (made.found)) (rw same at (made.only)) c.in_ok-shared.ensures.only)
 
-pub returns-in_err-thrice-clause-kept : goal.returns-in_err-thrice-clause-kept
-returns-in_err-thrice-clause-kept c =
-    risen c.from_residual-in_err-thrice.result _ c.args.meter.now.total c.prepare_policy.new.meter.total c.args.meter.now.fits c.in_ok-prepared.ensures.rises
+pub returns-in_err-shared-clause-kept : goal.returns-in_err-shared-clause-kept
+returns-in_err-shared-clause-kept c =
+    risen c.from_residual-in_err-shared.result _ c.args.meter.now.total c.prepare_policy.new.meter.total c.args.meter.now.fits c.in_ok-prepared.ensures.rises

@@ -1,4 +1,4 @@
 use Rattle.tac_desks.proofs.live_desk.LiveDeskDesk.load.Goals as goal
 
 pub returns-clause-rises : goal.returns-clause-rises
-returns-clause-rises c = rw (← c.self.view_is) c.in_ok-thrice.ensures.rises
+returns-clause-rises c = rw (← c.self.view_is) c.in_ok-shared.ensures.rises
