@@ -17,9 +17,9 @@ use Rattle.tac_worker.specs.AtHall.{MakesOne, Refuses}
 use Rattle.tac_worker.specs.Linked.{Linked, IsOver, IsOpen, StandsSo}
 use Rattle.tac_worker.specs.Told.{RefusesOne, refused_of}
 use Rattle.tac_worker.specs.Worked.{answers_of}
-use Rattle.tac_loop.specs.declared.line.Line.{Line}
-use Rattle.tac_loop.specs.Calls.{Call}
-use Rattle.tac_loop.specs.Board.{Board, AreAll, AreApart, IsKnown, IsAccounted, IsWorking}
+use Rattle.tac_worker.specs.declared.line.Line.{Line}
+use Rattle.tac_worker.specs.Calls.{Call}
+use Rattle.tac_worker.specs.Board.{Board, AreAll, AreApart, IsKnown, IsAccounted, IsWorking}
 use Rattle.tac_net.specs.Logs.{HasLogged}
 use Rattle.tac_net.specs.declared.callers.Callers.{Callers}
 use Rattle.tac_net.specs.Connections.{IsTold, IsRefused, TellsLog, Begins, DeskLine, DeskBoard, IsDeskBoard, IsConnectionOf, HasServed}

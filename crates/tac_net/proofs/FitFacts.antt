@@ -4,10 +4,10 @@ use Rattle.std.proofs.Common.{◌≡◌, ◌+◌, ℕ, suc, ◌<◌, List, [], �
 use Rattle.tac_wire.specs.declared.door.Door.{Door}
 use Rattle.tac_hall.specs.Seat.{Seated}
 use Rattle.tac_worker.specs.Worked.{Exchange}
-use Rattle.tac_loop.specs.declared.line.Line.{Line}
-use Rattle.tac_loop.specs.declared.stop.Stop.{Stop}
-use Rattle.tac_loop.specs.Board.{Board, at, came, AreAll, Adds, removed_at, ServesAt}
-use Rattle.tac_loop.proofs.BoardFacts.{all_added, all_removed, all_served}
+use Rattle.tac_worker.specs.declared.line.Line.{Line}
+use Rattle.tac_worker.specs.declared.stop.Stop.{Stop}
+use Rattle.tac_worker.specs.Board.{Board, at, came, AreAll, Adds, removed_at, ServesAt}
+use Rattle.tac_worker.proofs.BoardFacts.{all_added, all_removed, all_served}
 use Rattle.tac_net.specs.Connections.{HaveAllServed}
 
 module _ {C V S : Type 0} (P : Door → V → Type 0) where

@@ -24,9 +24,9 @@ use Rattle.tac_worker.specs.Served.{Sending, served, asks, bytes_sent}
 use Rattle.tac_worker.specs.Worked.{Exchange, asks_of, answers_of, in_view, WritesSome, Writes, IsServedBy}
 use Rattle.tac_hall.specs.Room.{Opening}
 use Rattle.tac_hall.specs.Seat.{Seated, CatchesUp}
-use Rattle.tac_loop.specs.Calls.{Call, exchanges, calls_of}
-use Rattle.tac_loop.specs.Board.{IsAccounted}
-use Rattle.tac_loop.proofs.AccountFacts.{served_by_its_own, open_by_its_own}
+use Rattle.tac_worker.specs.Calls.{Call, exchanges, calls_of}
+use Rattle.tac_worker.specs.Board.{IsAccounted}
+use Rattle.tac_worker.proofs.AccountFacts.{served_by_its_own, open_by_its_own}
 use Rattle.tac_net.specs.Shared.{packets_in, answers_by}
 use Rattle.tac_net.specs.Connections.{IsTold, IsRefused, DeskLine}
 use Rattle.tac_net.specs.Places.{calls_before, StoodAt, IsSaid, LeavesUnput, IsSaidOn, PlacesLaw}

@@ -5,9 +5,9 @@ use Rattle.tac_audit.specs.declared.notice.Notice.{Notice}
 use Rattle.tac_hall.specs.Seat.{Seated}
 use Rattle.tac_journal.specs.Log.{Keeping}
 use Rattle.tac_worker.specs.Worked.{Exchange}
-use Rattle.tac_loop.specs.declared.line.Line.{Line}
-use Rattle.tac_loop.specs.declared.stop.Stop.{Stop}
-use Rattle.tac_loop.specs.Board.{Board, at, came, Adds, removed_at, ServesAt}
+use Rattle.tac_worker.specs.declared.line.Line.{Line}
+use Rattle.tac_worker.specs.declared.stop.Stop.{Stop}
+use Rattle.tac_worker.specs.Board.{Board, at, came, Adds, removed_at, ServesAt}
 use Rattle.tac_net.specs.Connections.{Begins}
 use Rattle.tac_net.specs.Standing.{Stands}
 use Rattle.tac_net.specs.declared.callers.Callers.{Callers}

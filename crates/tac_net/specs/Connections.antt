@@ -10,8 +10,8 @@ use Rattle.tac_hall.specs.Seat.{Seated, CatchesUp}
 use Rattle.tac_journal.specs.Log.{Keeping}
 use Rattle.tac_worker.specs.AtHall as at_desk
 use Rattle.tac_wire.specs.declared.door.Door.{Door}
-use Rattle.tac_loop.specs.Board.{Board, AreAll, IsWorking}
-use Rattle.tac_loop.specs.declared.line.Line.{Line}
+use Rattle.tac_worker.specs.Board.{Board, AreAll, IsWorking}
+use Rattle.tac_worker.specs.declared.line.Line.{Line}
 use Rattle.tac_net.specs.Callers.{IsDoorOfOne}
 use Rattle.tac_net.specs.Logs.{HasLogged}
 use Rattle.tac_net.specs.declared.callers.Callers.{Callers}

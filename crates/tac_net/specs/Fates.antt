@@ -4,8 +4,8 @@ use Rattle.tac_audit.specs.declared.event.WhyTurnedAway.{WhyTurnedAway}
 use Rattle.tac_audit.specs.declared.event.WhyTurnedAway.TheVariants as refusals
 use Rattle.tac_census.specs.declared.refusal.Refusal.{Refusal}
 use Rattle.tac_census.specs.declared.refusal.Refusal.TheVariants.{Full, AddressFull, Memory}
-use Rattle.tac_loop.specs.declared.stop.Stop.{Stop}
-use Rattle.tac_loop.specs.declared.stop.Stop.TheVariants as stops
+use Rattle.tac_worker.specs.declared.stop.Stop.{Stop}
+use Rattle.tac_worker.specs.declared.stop.Stop.TheVariants as stops
 use Rattle.tac_status.specs.declared.connection_counts.Departure.{Departure}
 use Rattle.tac_status.specs.declared.connection_counts.Departure.TheVariants as departures
 use Rattle.tac_status.specs.declared.connection_counts.Rejection.{Rejection}

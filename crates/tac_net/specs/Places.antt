@@ -13,8 +13,8 @@ use Rattle.tac_hall.specs.Room.{Opening}
 use Rattle.tac_worker.specs.Linked.{put}
 use Rattle.tac_worker.specs.Served.{served, bytes_sent}
 use Rattle.tac_worker.specs.Worked.{Exchange, answers_of}
-use Rattle.tac_loop.specs.Calls.{calls_of}
-use Rattle.tac_loop.specs.Board.{AreAll}
+use Rattle.tac_worker.specs.Calls.{calls_of}
+use Rattle.tac_worker.specs.Board.{AreAll}
 use Rattle.tac_desk.specs.Serving.{sent_bytes}
 use Rattle.tac_net.specs.Connections.{DeskLine, DeskBoard, IsDeskBoard}
 use Rattle.tac_net.specs.Shared.{said_shared_on, packets_in}

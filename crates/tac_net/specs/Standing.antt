@@ -3,7 +3,7 @@ use Rattle.std.specs.Prelude.{◌≡◌, ◌+◌, ℕ}
 use Rattle.tac_audit.specs.declared.notice.Notice.{Notice}
 use Rattle.tac_hall.specs.Seat.{Seated}
 use Rattle.tac_journal.specs.Log.{Keeping}
-use Rattle.tac_loop.specs.Board.{Board, AreAll}
+use Rattle.tac_worker.specs.Board.{Board, AreAll}
 use Rattle.tac_net.specs.Connections.{Begins}
 use Rattle.tac_net.specs.declared.callers.Callers.{Callers}
 use Rattle.tac_net.specs.declared.settings.Settings.{Settings}

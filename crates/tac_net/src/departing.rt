@@ -5,9 +5,8 @@ ghost use Rattle.tac_net.specs.Fates as fates;
 
 use crate::socket::Socket;
 use std::time::Clock;
-use tac_loop::Stop;
 use tac_status::Departure;
-use tac_worker::End;
+use tac_worker::{End, Stop};
 
 /// Why a worker lets go of a connection.
 #[derive(Clone, Copy)]

@@ -32,10 +32,9 @@ use tac_digests::{Done, Job};
 use tac_first::Shown;
 use tac_hall::{Run, Seat};
 use tac_journal::{Log, LogFiles, Moments};
-use tac_loop::{Stop, Switchboard};
 use tac_status::Departure;
 use tac_wire::Door;
-use tac_worker::{CHUNK, Chunk, HallCaller, Terms};
+use tac_worker::{CHUNK, Chunk, HallCaller, Stop, Switchboard, Terms};
 
 /// How many steps of one connection are made before others have theirs: 16 packets, each with its
 /// turn and its write, or fewer where more has to be read.

@@ -7,3 +7,7 @@ pub mod TurnFacts
 pub mod WorkFacts
 pub mod LinkFacts
 pub mod AheadFacts
+pub mod CallFacts
+pub mod StepFacts
+pub mod BoardFacts
+pub mod AccountFacts

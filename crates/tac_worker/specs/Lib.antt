@@ -7,3 +7,8 @@ pub mod Ahead
 pub mod Noting
 pub mod Linked
 pub mod Linking
+pub mod Calls
+pub mod Steps
+pub mod Board
+pub mod Boarding
+pub mod Steady

@@ -8,8 +8,7 @@ use crate::work::support::{Course, bob, door, runs, runs_for_bob, serves};
 use std::sync::Wait;
 use std::test::Fail;
 use tac_hall::Limits;
-use tac_loop::Steady;
-use tac_worker::{Caller, Terms};
+use tac_worker::{Caller, Steady, Terms};
 
 fn number(word: Option<&str>) -> Result<usize, Fail> {
     Ok(word.ok_or("no number")?.parse::<usize>()?)

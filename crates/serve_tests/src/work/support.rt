@@ -13,9 +13,8 @@ use std::test::Fail;
 use tac_desk::Desk;
 use tac_desks::PlainDesk;
 use tac_hall::{Call, EmptyHistory, Hall, Limits, Run};
-use tac_loop::Steady;
 use tac_wire::{Door, Key};
-use tac_worker::{CHUNK, Caller, Due, End, HallCaller, Link, Terms};
+use tac_worker::{CHUNK, Caller, Due, End, HallCaller, Link, Steady, Terms};
 
 pub(crate) fn door() -> Result<Door, Fail> {
     Ok(Door::Padded(Key::read(b"k").ok_or("no key")?))

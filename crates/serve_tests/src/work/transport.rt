@@ -10,8 +10,7 @@ use std::alloc::Global;
 use std::sync::Wait;
 use std::test::Fail;
 use tac_hall::Limits;
-use tac_loop::Steady;
-use tac_worker::{Caller, End, Terms};
+use tac_worker::{Caller, End, Steady, Terms};
 
 // How a connection comes to its end: what comes on it, how many bytes there is room for, and how these
 // are given and taken.

@@ -9,9 +9,8 @@ use std::sync::Wait;
 use std::test::Fail;
 use tac_audit::Nobody;
 use tac_hall::Limits;
-use tac_loop::{Steady, Switchboard};
 use tac_wire::Door;
-use tac_worker::{CHUNK, Terms};
+use tac_worker::{CHUNK, Steady, Switchboard, Terms};
 
 // Connections that give these bytes at this pace have so many turns each, one connection after another, so
 // many times. Why each is left each time, if that is asked, and the first bytes of what is written, first

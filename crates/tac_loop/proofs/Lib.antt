@@ -1,4 +1,0 @@
-pub mod CallFacts
-pub mod StepFacts
-pub mod BoardFacts
-pub mod AccountFacts
