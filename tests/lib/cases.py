@@ -5,9 +5,9 @@ import time
 import typing
 
 LONGEST_WAIT = 20
-# What is closed at once is closed within these seconds. What is silent has ten, if no option says
-# otherwise.
-SOON = 5
+# What is closed at once is closed within these seconds, though the machine does much else. What is
+# silent has ten, if no option says otherwise.
+SOON = 9
 
 class Mistake(Exception):
     """Why a file can't be read as tests, with its name and its line."""
