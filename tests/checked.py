@@ -5,7 +5,6 @@ import contextlib
 import errno
 import os
 import pathlib
-import shutil
 import socket
 import subprocess
 import tempfile
@@ -237,8 +236,11 @@ def without_rights(program):
         if os.geteuid() == 0:
             for name in ("policy", "key"):
                 os.chown(f"{folder.name}/{name}", NOBODY, NOBODY)
-        # since the folder of the program may be root's alone
-        program = shutil.copy(program, folder.name)
+        # Since the folder of the program may be root's alone. A process of its own writes the copy:
+        # one that another case begins would have it open too, and what is written can't be run.
+        copy = f"{folder.name}/tacd"
+        subprocess.run(["cp", program, copy], check=True)
+        program = copy
         os.chmod(program, 0o755)
         folder.write("locked", "", 0o400)
         folder.write("unwritable", "", 0o444)
