@@ -2,6 +2,7 @@
 #![tactic(auto)]
 
 mod acceptor;
+mod arriving;
 mod attending;
 mod callers;
 mod clear_door;
@@ -14,6 +15,7 @@ mod files;
 mod filling;
 mod gauge;
 mod greeting;
+mod guests;
 mod hashing;
 mod hush;
 mod intake;
@@ -31,10 +33,15 @@ mod port;
 mod premises;
 mod program;
 mod proxy_socket;
+mod reception;
+mod revisits;
+mod serving;
 mod settings;
 mod socket;
+mod sweeping;
 mod turned_away;
 mod vigil;
+mod visiting;
 mod visits;
 mod witness;
 mod worker;

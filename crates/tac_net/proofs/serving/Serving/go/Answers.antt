@@ -2,7 +2,7 @@ use Rattle.tac_hall.specs.Seat.{CatchesUp}
 use Rattle.tac_worker.specs.AtHall.{MakesOne}
 use Rattle.tac_net.specs.Witness.{Takes, Refuses}
 use Rattle.tac_net.proofs.StandingFacts.{stands_served}
-use Rattle.tac_net.proofs.worker.Worker.go.Goals as goal
+use Rattle.tac_net.proofs.serving.Serving.go.Goals as goal
 
 pub invariant_of-self : goal.invariant_of-self
 invariant_of-self g c =
