@@ -66,7 +66,7 @@ impl Revisits {
         Some(key)
     }
 
-    /// How long it is until a reply that is held back may be sent, in milliseconds, if there is one.
+    /// How long it is until a reply that is held back may be sent, in milliseconds, if one is.
     pub(crate) fn releases_in(&self, now: Option<u64>) -> Option<u64> {
         match (self.held.front(), now) {
             (Some((until, _)), Some(now)) => Some(until.saturating_sub(now)),

@@ -75,8 +75,8 @@ where
         false
     }
 
-    /// Serves a connection for some steps, and lets go of it where it is over. The answer is whether
-    /// it waits for room to write.
+    /// Serves a connection for some steps, and lets go of it where it is over. The answer is
+    /// whether it waits for room to write.
     pub(crate) fn go(&mut self, key: usize, line: usize) -> bool
         ensures { self.new ≡ self.old }
     {
@@ -99,8 +99,8 @@ where
         }
     }
 
-    /// From now on a wait tells when a connection may be read, or, where it waits for room to write,
-    /// when it may be written. Where the system refuses it, the connection is over.
+    /// From now on a wait tells when a connection may be read, or, where it waits for room to
+    /// write, when it may be written. Where the system refuses it, the connection is over.
     pub(crate) fn register(
         &mut self,
         poller: &Poller,
@@ -134,8 +134,8 @@ where
         }
     }
 
-    /// Serves a connection that is registered. While it waits for room to write, a wait tells of that
-    /// alone, since the packets that come aren't read before.
+    /// Serves a connection that is registered. While it waits for room to write, a wait tells of
+    /// that alone, since the packets that come aren't read before.
     pub(crate) fn serve(&mut self, poller: &Poller, key: usize, line: usize)
         ensures { self.new ≡ self.old }
     {

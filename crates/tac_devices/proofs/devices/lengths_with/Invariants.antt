@@ -6,4 +6,4 @@ use Rattle.tac_devices.proofs.devices.lengths_with.Given as goal
 -- the longest so far with the rest are those of all
 abbrev pub invariant-places : goal.invariant-places
 invariant-places l =
-    lengths_from l.longest (map (λ (place : Place). (l.device, place)) (drop l.place-index l.device.places)) ≡ lengths_from l.lengths (spots_of l.device)
+    lengths_from l.longest (map (λ (place : Place). (l.device, place)) (drop l.place-index l.device.places)) ≡ lengths_from l.fn.lengths (spots_of l.device)
