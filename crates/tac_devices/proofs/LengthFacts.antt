@@ -1,7 +1,7 @@
 -- A prefix that an address begins with is its nearest where none is longer.
 use Rattle.std.proofs.Common.{◌≡◌, ℕ, ◌+◌, suc, drop, get_or, length, max, ◌<◌, ◌≤◌, eqb, Bool, true, false, cond, ◌&&◌, List, [], ◌∷◌, ◌++◌, map, nat_lt, Option, Some, None, All, Contains, refl, subst, sym, ap, ◌∙◌, append_assoc, arith}
-use Rattle.std.specs.Prelude.{nat_le, find}
-use Rattle.std.proofs.lemmas.Bool.{and_parts, eqb-true}
+use Rattle.std.specs.Prelude.{nat_le, find, slice_get, slice_index_or}
+use Rattle.std.proofs.lemmas.Bool.{and_parts, eqb-true, leb-true}
 use Rattle.std.proofs.lemmas.Bool.Decides.{nat_tests}
 use Rattle.std.proofs.Math.Seq.{drop-cons}
 use Rattle.std.proofs.Math.ListN.{drop_of_length-le}
@@ -81,28 +81,37 @@ found_inside test (x ∷ places) place e = by (test x) refl e
     by false t f = let more = found_inside test places place f in (Contains-append_right (x ∷ []) places place more.0, more.1)
 
 spots_of_inside : (device : Device) (places : List Place) (place : Place) → Contains places place → Contains (map (λ (p : Place). (device, p)) places) (device, place)
-spots_of_inside device places place h = All-contains_map h
+spots_of_inside device [] place h = absurd (omega (arith, h.1))
+spots_of_inside device (x ∷ places) place h = by h.0 h.1 h.2
   where
-    All-contains_map : Contains places place → Contains (map (λ (p : Place). (device, p)) places) (device, place)
-    All-contains_map h = search h
+    others : List Spot
+    others = map (λ (p : Place). (device, p)) places
 
-spots_inside : (devices : List Device) (device : Device) (place : Place) → Contains devices device → Contains device.places place → Contains (spots devices) (device, place)
-spots_inside devices device place h k = search h
+    by : (k : ℕ) → k < length (x ∷ places) → slice_index_or (x ∷ places) k place ≡ place → Contains ((device, x) ∷ others) (device, place)
+    by zero lt e = subst (λ (p : Place). Contains ((device, x) ∷ others) (device, p)) e (contains_first (device, x) others)
+    by (suc k) lt e = Contains-append_right ((device, x) ∷ []) others (device, place) (spots_of_inside device places place (k, omega (arith, lt), e))
 
-pub longest_nearest : (devices : List Device) (address : IpAddr) (device : Device) (place : Place) → Contains devices device → find (is_longest (lengths_of devices) address) device.places ≡ Some place
-    → IsNearestOf (spots devices) address (Some (device, place))
-longest_nearest devices address device place inside found =
-    let lengths = lengths_of devices in
+spots_inside : (devices : List Device) (number : ℕ) (device : Device) (place : Place) → slice_get devices number ≡ Some device → Contains device.places place → Contains (spots devices) (device, place)
+spots_inside [] number device place e h = absurd cc
+spots_inside (d ∷ devices) zero device place e h =
+    let is : d ≡ device = cc in
+    subst (λ (x : Device). Contains (spots_of x ++ spots devices) (device, place)) (sym is) (Contains-append_left (spots_of device) (spots devices) (device, place) (spots_of_inside device device.places place h))
+spots_inside (d ∷ devices) (suc number) device place e h = Contains-append_right (spots_of d) (spots devices) (device, place) (spots_inside devices number device place e h)
+
+pub longest_nearest : (devices : List Device) (lengths : Lengths) (number : ℕ) (address : IpAddr) (device : Device) (place : Place) → lengths ≡ lengths_of devices → slice_get devices number ≡ Some device
+    → find (is_longest lengths address) device.places ≡ Some place → IsNearestOf (spots devices) address (Some (device, place))
+longest_nearest devices lengths number address device place are there found =
     let here = found_inside (is_longest lengths address) device.places place found in
     let parts = and_parts (covers place.prefix address) (nat_le (length_of lengths (width place.prefix.address)) place.prefix.length) here.1 in
-    let long : length_of lengths (width place.prefix.address) ≤ place.prefix.length = grind (arith, nat_tests) in (
-      spots_inside devices device place inside here.0,
+    let long : length_of lengths (width place.prefix.address) ≤ place.prefix.length = leb-true _ _ parts.1 in
+    let fit : All (Fits lengths) (spots devices) = subst (λ (l : Lengths). All (Fits l) (spots devices)) (sym are) (all_fit (spots devices) (record { v4 = 0; v6 = 0 })) in (
+      spots_inside devices number device place there here.0,
       parts.0,
       All-weaker (Fits lengths) (λ (other : Spot). covers other.1.prefix address ≡ true → other.1.prefix.length ≤ place.prefix.length)
-          (λ other fits also.
+          (λ other fits. λ also.
           let mine = and_parts (eqb (width address) (width place.prefix.address)) (eqb (front address place.prefix.length) (front place.prefix.address place.prefix.length)) parts.0 in
           let its = and_parts (eqb (width address) (width other.1.prefix.address)) (eqb (front address other.1.prefix.length) (front other.1.prefix.address other.1.prefix.length)) also in
           let same : length_of lengths (width other.1.prefix.address) ≡ length_of lengths (width place.prefix.address) = ap (length_of lengths) (sym (eqb-true _ _ its.0) ∙ eqb-true _ _ mine.0) in
           omega (arith, fits, same, long))
-          (spots devices) (all_fit (spots devices) (record { v4 = 0; v6 = 0 })),
+          (spots devices) fit,
     )

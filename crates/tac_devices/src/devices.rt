@@ -1,6 +1,6 @@
 //! The devices that may call.
 
-ghost use Rattle.std.specs.Prelude.{◌≡◌, Option, find};
+ghost use Rattle.std.specs.Prelude.{◌≡◌, Option, Some, IfSome, find, slice_get};
 ghost use Rattle.std.specs.Option.{option_map, option_copied};
 ghost use Rattle.tac_devices.specs.Devices as specs;
 ghost use Rattle.tac_devices.specs.declared.device.Device.{Device as DeviceValue};
@@ -118,6 +118,38 @@ fn longest_place<'a>(lengths: Lengths, device: &'a Device, address: &IpAddr) -> 
         .find(|place| lengths.is_longest(address, place))
 }
 
+// The device of this number, if there is one.
+fn numbered(devices: &[Device], number: usize) -> Option<&Device>
+    ensures { option_copied result ≡ slice_get devices.now number }
+{
+    devices.get(number)
+}
+
+// The device of this number, with a prefix that an address begins with, if none of the list is
+// longer.
+fn guessed<'a>(
+    devices: &'a [Device],
+    lengths: Lengths,
+    number: usize,
+    address: &IpAddr,
+) -> Option<Spot<'a>>
+    requires { lengths ≡ specs.lengths_of devices.now }
+    ensures { IfSome result (λ spot.
+        specs.IsNearest devices.now address.now (Some (specs.spot_of spot))) }
+{
+    let Some(device) = numbered(devices, number) else {
+        return None;
+    };
+    match longest_place(lengths, device, address) {
+        Some(place) => Some(Spot {
+            device,
+            place,
+            number,
+        }),
+        None => None,
+    }
+}
+
 // Whether its prefix is longer than that of the best so far.
 fn is_longer(spot: Spot<'_>, best: Option<Spot<'_>>) -> bool
     ensures { result ≡ specs.is_longer (specs.spot_of spot.entry)
@@ -230,16 +262,9 @@ impl Devices {
     pub fn spot_near(&self, number: usize, address: &IpAddr) -> Option<Spot<'_>>
         ensures { specs.IsFound self.now address.now (option_map specs.spot_of result) }
     {
-        let Some(device) = self.devices.as_slice().get(number) else {
-            return self.spot(address);
-        };
         let canonical = address.to_canonical();
-        match longest_place(self.lengths, device, &canonical) {
-            Some(place) => Some(Spot {
-                device,
-                place,
-                number,
-            }),
+        match guessed(self.as_slice(), self.lengths, number, &canonical) {
+            Some(spot) => Some(spot),
             None => self.spot(address),
         }
     }
