@@ -261,15 +261,15 @@ fn number_in(list: usize, guess: Option<DeviceNumber>) -> Option<usize> {
 fn find_listed<'a>(
     directory: &'a Directory,
     proxy: &'a Option<ClearDoor>,
-    peer: (&IpAddr, &Way),
+    address: &IpAddr,
+    way: &Way,
     guess: Option<DeviceNumber>,
 ) -> Result<(Found<'a>, DeviceNumber), TurnedDown>
     ensures found { IfOk result (λ found.
-        callers.IsFoundAt (Listed directory.now proxy.now) peer.0.now peer.1.now found.0) }
+        callers.IsFoundAt (Listed directory.now proxy.now) address.now way.now found.0) }
     ensures refused { IfErr result (λ refused. callers.IsRefused (Listed directory.now proxy.now)
-        peer.0.now peer.1.now refused.why refused.named) }
+        address.now way.now refused.why refused.named) }
 {
-    let (address, way) = peer;
     let (list, devices) = directory.latest();
     let Some((device, number)) = device_at(devices, number_in(list, guess), address) else {
         return Err(TurnedDown {
@@ -333,7 +333,7 @@ impl Callers {
                 }),
             },
             Callers::Listed { directory, proxy } => {
-                find_listed(directory, proxy, (address, way), guess)
+                find_listed(directory, proxy, address, way, guess)
             }
         }
     }
