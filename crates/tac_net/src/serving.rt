@@ -123,6 +123,17 @@ fn misfits_of<'a>(intake: &'a Intake, door: &Door) -> Option<&'a Misfits> {
     }
 }
 
+// A connection from this address, which this worker had, is gone.
+fn leave<R: Wait, J: Run, D: Desk, L>(
+    premises: &Premises<'_, R, J, D, L>,
+    at: usize,
+    address: IpAddr,
+    why: Departure,
+) {
+    premises.intake.leave(premises.rt, at, address);
+    premises.counts.connections.end(why);
+}
+
 impl<'a, R, J: Run, D: Desk, L: Log> Serving<'a, R, J, D, L>
 where
     R: Wait + Clock + AllocGlobal + Eprint + LogFiles,
@@ -156,14 +167,7 @@ where
 
     /// A connection from this address, which its worker had, is gone.
     pub(crate) fn leave(&self, address: IpAddr, why: Departure) {
-        let Premises {
-            rt,
-            intake,
-            counts,
-            ..
-        } = *self.premises;
-        intake.leave(rt, self.at, address);
-        counts.connections.end(why);
+        leave(self.premises, self.at, address, why);
     }
 
     /// Adds a connection whose device shows this of its keys, if that may still call, and there may
@@ -266,7 +270,7 @@ where
         if let Some(line) = self.board.remove(key) {
             let socket = line.socket();
             let why = departure(parting, socket);
-            self.leave(socket.address(), why);
+            leave(self.premises, self.at, socket.address(), why);
         }
     }
 

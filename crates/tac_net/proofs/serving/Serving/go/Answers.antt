@@ -8,23 +8,3 @@ pub invariant_of-self : goal.invariant_of-self
 invariant_of-self g c =
     stands_served (Takes g.L.Log.keeping) (Refuses g.L.Log.keeping) c.self.inside.premises.now.settings.now.callers (g.L.Log.keeping c.self.inside.premises.now.log.now)
     c.self.inside.premises.now.settings.now.connections (MakesOne g.J.Run.opening) CatchesUp _ _ c.self.inside.left _ c.args.key c.serve-stop.result c.self.inside.board c.serve-stop.new.self c.serve-stop.ensures c.self.invariant
-
-pub invariant_of-self-in-Digest : goal.invariant_of-self-in-Digest
-invariant_of-self-in-Digest g c =
-    stands_served (Takes g.L.Log.keeping) (Refuses g.L.Log.keeping) c.self.inside.premises.now.settings.now.callers (g.L.Log.keeping c.self.inside.premises.now.log.now)
-    c.self.inside.premises.now.settings.now.connections (MakesOne g.J.Run.opening) CatchesUp _ _ c.self.inside.left _ c.args.key c.serve-stop.result c.self.inside.board c.serve-stop.new.self c.serve-stop.ensures c.self.invariant
-
-pub invariant_of-self-in-Full : goal.invariant_of-self-in-Full
-invariant_of-self-in-Full g c =
-    stands_served (Takes g.L.Log.keeping) (Refuses g.L.Log.keeping) c.self.inside.premises.now.settings.now.callers (g.L.Log.keeping c.self.inside.premises.now.log.now)
-    c.self.inside.premises.now.settings.now.connections (MakesOne g.J.Run.opening) CatchesUp _ _ c.self.inside.left _ c.args.key c.serve-stop.result c.self.inside.board c.serve-stop.new.self c.serve-stop.ensures c.self.invariant
-
-pub invariant_of-self-in-Ended : goal.invariant_of-self-in-Ended
-invariant_of-self-in-Ended g c =
-    stands_served (Takes g.L.Log.keeping) (Refuses g.L.Log.keeping) c.self.inside.premises.now.settings.now.callers (g.L.Log.keeping c.self.inside.premises.now.log.now)
-    c.self.inside.premises.now.settings.now.connections (MakesOne g.J.Run.opening) CatchesUp _ _ c.self.inside.left _ c.args.key c.serve-stop.result c.self.inside.board c.serve-stop.new.self c.serve-stop.ensures c.self.invariant
-
-pub invariant_of-self-in-Idle : goal.invariant_of-self-in-Idle
-invariant_of-self-in-Idle g c =
-    stands_served (Takes g.L.Log.keeping) (Refuses g.L.Log.keeping) c.self.inside.premises.now.settings.now.callers (g.L.Log.keeping c.self.inside.premises.now.log.now)
-    c.self.inside.premises.now.settings.now.connections (MakesOne g.J.Run.opening) CatchesUp _ _ c.self.inside.left _ c.args.key c.serve-stop.result c.self.inside.board c.serve-stop.new.self c.serve-stop.ensures c.self.invariant
