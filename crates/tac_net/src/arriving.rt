@@ -3,7 +3,6 @@
 ghost use Rattle.std.specs.Prelude.{◌≡◌};
 
 use crate::acceptor::Accepted;
-use crate::callers::Callers;
 use crate::departing::Parting;
 use crate::greeting::Greeted;
 use crate::guests::Guest;
@@ -16,7 +15,6 @@ use crate::reception::receive;
 use crate::socket::now;
 use crate::worker::Worker;
 use mio::net::TcpStream;
-use std::alloc::Global;
 use std::sync::Wait;
 use std::time::Clock;
 use tac_desk::Desk;
@@ -24,23 +22,6 @@ use tac_first::Shown;
 use tac_hall::Run;
 use tac_journal::{Log, LogFiles};
 use tac_status::{Departure, Rejection};
-use tac_worker::Chunk;
-
-// Which of its device's keys a connection has, once that is shown. The error says why it is over
-// before that: its device may not call any more, among others.
-fn look(
-    alloc: Global,
-    callers: &Callers,
-    lead: &mut Lead<'_, TcpStream>,
-    known: KnownPeer,
-    chunk: &mut Chunk,
-) -> Result<Option<Shown>, Departure> {
-    let KnownPeer { peer, number } = known;
-    let Ok((found, _)) = callers.find(&peer.address.ip(), &peer.way, Some(number)) else {
-        return Err(Departure::Unlisted);
-    };
-    lead.look(alloc, found, chunk)
-}
 
 impl<'a, R, J: Run, D: Desk, L: Log> Worker<'a, R, J, D, L>
 where
@@ -111,7 +92,7 @@ where
         }
         let mut lead = Lead::new(stream, begun, intake.packet_memory(), now(rt));
         let chunk = &mut self.chunk;
-        match look(rt.alloc(), &settings.callers, &mut lead, known, chunk) {
+        match lead.look(rt.alloc(), &settings.callers, known, chunk) {
             Ok(Some(shown)) => self.begin(poller, lead, known, shown, is_registered),
             Ok(None) => self.await_packet(poller, lead, known, is_registered),
             Err(why) => self.serving.leave(known.peer.address.ip(), why),
@@ -123,10 +104,8 @@ where
         ensures { self.new ≡ self.old }
     {
         let Premises { rt, settings, .. } = *self.premises;
-        let Some((lead, known)) = self.guests.lead(key) else {
-            return;
-        };
-        let looked = look(rt.alloc(), &settings.callers, lead, known, &mut self.chunk);
+        let chunk = &mut self.chunk;
+        let looked = self.guests.look(key, rt.alloc(), &settings.callers, chunk);
         if let Ok(None) = looked {
             return;
         }

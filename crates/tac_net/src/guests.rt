@@ -1,5 +1,6 @@
 //! The connections of a worker, from accept to close.
 
+use crate::callers::Callers;
 use crate::greeting::{Greeted, HEADER_IDLE};
 use crate::lead::Lead;
 use crate::patience::Idle;
@@ -7,6 +8,9 @@ use crate::peer::KnownPeer;
 use mio::net::TcpStream;
 use slab::{Iter, Slab};
 use std::alloc::Global;
+use tac_first::Shown;
+use tac_status::Departure;
+use tac_worker::Chunk;
 
 /// A connection of a worker, by what is awaited on it.
 #[derive(Drop)]
@@ -128,11 +132,18 @@ impl<'a> Guests<'a> {
         }
     }
 
-    /// The one under this key, and who calls, if its first packet is awaited.
-    pub(crate) fn lead(&mut self, key: usize) -> Option<(&mut Lead<'a, TcpStream>, KnownPeer)> {
+    /// Which of its device's keys the one under this key has, whose first packet is awaited, once
+    /// that is shown. The error says why it is over before that.
+    pub(crate) fn look(
+        &mut self,
+        key: usize,
+        alloc: Global,
+        callers: &Callers,
+        chunk: &mut Chunk,
+    ) -> Result<Option<Shown>, Departure> {
         match self.guests.get_mut(key) {
-            Some(Guest::FirstPacket(lead, known)) => Some((lead, *known)),
-            _ => None,
+            Some(Guest::FirstPacket(lead, known)) => lead.look(alloc, callers, *known, chunk),
+            _ => Ok(None),
         }
     }
 

@@ -1,6 +1,6 @@
 //! A connection up to its first packet.
 
-use crate::callers::Found;
+use crate::callers::Callers;
 use crate::intake::Arrival;
 use crate::packet_memory::{PacketMemory, PacketShare};
 use crate::patience::{Idle, Patience};
@@ -127,14 +127,20 @@ impl<S: Read> Lead<'_, S> {
         }
     }
 
-    /// Which of its device's keys it has, once that is shown. Reads what is there until then. The
-    /// error says why the connection is over before that.
+    /// Which of the keys of the device that calls it has, once that is shown. Reads what is there
+    /// until then. The error says why the connection is over before that: no device may call so any
+    /// more, among others.
     pub(crate) fn look(
         &mut self,
         alloc: Global,
-        found: Found<'_>,
+        callers: &Callers,
+        known: KnownPeer,
         chunk: &mut Chunk,
     ) -> Result<Option<Shown>, Departure> {
+        let KnownPeer { peer, number } = known;
+        let Ok((found, _)) = callers.find(&peer.address.ip(), &peer.way, Some(number)) else {
+            return Err(Departure::Unlisted);
+        };
         for _ in 0..READS {
             let shown = found
                 .shown_by(alloc, self.begun.as_slice())

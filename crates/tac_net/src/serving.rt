@@ -200,12 +200,12 @@ where
             visits: self.visits,
             misfits: misfits_of(intake, terms.door),
         };
-        let address = known.peer.address;
-        let Ok(witness) = DeviceWitness::new(rt, log, told, address, named) else {
+        let Ok(witness) = DeviceWitness::new(rt, log, told, known.peer.address, named) else {
             return Err(Departure::Memory);
         };
+        let address = known.peer.address.ip();
         let delay = settings.fail_delay;
-        let socket = Socket::new(lead, address.ip(), terms.door, rt, self.visits, delay);
+        let socket = Socket::new(lead, address, terms.door, rt, self.visits, delay);
         let Ok(key) = self.board.add(&terms, witness, socket) else {
             return Err(Departure::Memory);
         };

@@ -50,12 +50,13 @@ where
         ensures { self.new ≡ self.old }
     {
         let premises = self.premises;
-        match self.guests.remove(key) {
+        let guest = self.guests.remove(key);
+        match &guest {
             Some(Guest::Header(_)) => premises.intake.turned_away().refuse_header(premises),
             Some(Guest::FirstPacket(_, known)) => {
                 self.serving.leave(known.peer.address.ip(), Departure::Idle);
             }
-            Some(Guest::Served(line)) => self.serving.remove(line, parting),
+            Some(Guest::Served(line)) => self.serving.remove(*line, parting),
             None => {}
         }
     }
