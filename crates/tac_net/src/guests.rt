@@ -141,9 +141,12 @@ impl<'a> Guests<'a> {
         callers: &Callers,
         chunk: &mut Chunk,
     ) -> Result<Option<Shown>, Departure> {
-        match self.guests.get_mut(key) {
-            Some(Guest::FirstPacket(lead, known)) => lead.look(alloc, callers, *known, chunk),
-            _ => Ok(None),
+        let Some(guest) = self.guests.get_mut(key) else {
+            return Ok(None);
+        };
+        match guest {
+            Guest::FirstPacket(lead, known) => lead.look(alloc, callers, *known, chunk),
+            Guest::Header(_) | Guest::Served(_) => Ok(None),
         }
     }
 
