@@ -154,7 +154,7 @@ fn is_borne(alloc: Global, idle: Idle, steps: &str) -> bool {
     let device = Device {
         letter: Cell::new(b's'),
     };
-    let address = IpAddr::from(Ipv4Addr::LOCALHOST);
+    let address = IpAddr::V4(Ipv4Addr::LOCALHOST);
     let Some(key) = Key::read(b"k") else {
         return false;
     };
