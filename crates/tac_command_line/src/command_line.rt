@@ -13,6 +13,7 @@ use crate::help::{
     VERSION_ABOUT, WHY_PAGE, WORD_HELP, WORKERS_HELP,
 };
 use crate::importing_line::import_command;
+use crate::questions_line::{search_command, tally_command};
 use clap::{Arg, ArgAction, ArgGroup, ArgMatches, Command, value_parser};
 use std::alloc::{AllocError, Global};
 
@@ -392,6 +393,8 @@ pub fn command<'a>(alloc: Global) -> Result<Command<'a>, AllocError> {
     let command = with(command, test(alloc))?;
     let command = with(command, devices(alloc))?;
     let command = with(command, import_command(alloc))?;
+    let command = with(command, tally_command(alloc))?;
+    let command = with(command, search_command(alloc))?;
     let command = with(command, replay(alloc))?;
     command.subcommand(version(alloc))
 }

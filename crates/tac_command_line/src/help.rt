@@ -794,6 +794,8 @@ pub(crate) const AFTER_LONG_HELP: &str = "Examples:
   tacd test campus.policy campus.cases
   tacd devices campus.devices 192.0.2.1
   tacd import tac_plus.conf
+  tacd tally /var/log/tacd/audit.log --user ben
+  tacd search /var/log/tacd/audit.log --user ben --status FAIL
   tacd serve --port 49 --key-file tacd.key campus.policy
   tacd console /run/tacd/console why ben show vlan
   tacd ask --key-file tacd.key login bob < password

@@ -5,6 +5,7 @@ pub mod asking_line;
 mod command_line;
 mod help;
 pub mod importing_line;
+pub mod questions_line;
 
 pub use command_line::{
     ADDRESS, ADDRESSES, CASES, CHECK, CHECK_ALONE, CONNECTIONS, CONNECTIONS_AT_ONCE, CONSOLE,

@@ -15,13 +15,14 @@ use std::time::Clock;
 use std::{env, io};
 use tac_command_line::asking_line::ASK;
 use tac_command_line::importing_line::IMPORT;
+use tac_command_line::questions_line::{SEARCH, TALLY};
 use tac_command_line::{
     CHECK, CONSOLE, DEVICES, DIFF, FILE, GIVEN, LINT, REPLAY, SERVE, TEST, VERSION, VERSION_WORD,
     WHY, command, word_of,
 };
 use tac_commands::{
-    ask, check_policy, devices, diff, given, import, lint_policy, replay_script, test,
-    type_at_console, why,
+    ask, check_policy, devices, diff, given, import, lint_policy, replay_script, search, tally,
+    test, type_at_console, why,
 };
 use tac_journal::LogFiles;
 use tac_keep::KeepFiles;
@@ -92,8 +93,8 @@ where
     Some(devices(rt, options))
 }
 
-// A parse that succeeds has met a subcommand: `serve`, `console`, `ask`, `replay`, or one that
-// looks at files.
+// A parse that succeeds has met a subcommand: `serve`, `console`, `ask`, `replay`, `tally`, `search`,
+// or one that looks at policies and devices.
 fn carry_out<R, H>(rt: &R, host: &H, matches: &ArgMatches<'_>) -> Status
 where
     R: Env + Files + Input + Print + Eprint + AllocGlobal,
@@ -111,6 +112,12 @@ where
     }
     if let Some(options) = matches.subcommand_matches(REPLAY) {
         return replay_script(rt, host, options);
+    }
+    if let Some(options) = matches.subcommand_matches(TALLY) {
+        return tally(rt, host, options);
+    }
+    if let Some(options) = matches.subcommand_matches(SEARCH) {
+        return search(rt, host, options);
     }
     look(rt, matches).unwrap_or(Status::BadCommandLine)
 }

@@ -1,0 +1,2 @@
+$ tacd search --help
+prints search-long.out

@@ -1,0 +1,2 @@
+$ tacd search -h
+prints search.out

@@ -1,0 +1,2 @@
+$ tacd tally --help
+prints tally-long.out

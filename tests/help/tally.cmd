@@ -1,0 +1,2 @@
+$ tacd tally -h
+prints tally.out
