@@ -1,5 +1,5 @@
--- Which of equal lines count. A log is read in stretches: one ends with its file, and where the times
--- go back by a second or more, as where one file follows another in one stream. What stands again
+-- Which of equal lines count. A log is read in stretches: one ends with its file, and where a time is
+-- in an earlier second than the one before, as where files follow in one stream. What stands again
 -- within a stretch was written again; what stands in another one is a copy. So a line counts as
 -- often as the stretch has it that has it most often.
 use Rattle.std.specs.Prelude.{ℕ, ◌+◌, List, Bool, true, false, ◌==◌, nat_lt, Option, Some, None}
