@@ -28,7 +28,7 @@ use std::sync::Wait;
 use std::time::{Clock, Duration};
 use tac_audit::Named;
 use tac_desk::Desk;
-use tac_digests::{Done, Job};
+use tac_digests::{Done, HashTicket, Job};
 use tac_first::Shown;
 use tac_hall::{Run, Seat};
 use tac_journal::{Log, LogFiles, Moments};
@@ -221,12 +221,12 @@ where
             Ok(None) => return,
             Err(_) => return self.remove(key, Parting::Memory),
         };
-        let place = tac_digests::Place {
+        let ticket = HashTicket {
             worker: self.at,
             key,
             number,
         };
-        if !hashing.add(rt, Job { place, work }) {
+        if !hashing.add(rt, Job { ticket, work }) {
             self.remove(key, Parting::Crowded);
         }
     }
@@ -433,11 +433,11 @@ where
     {
         let rt = self.premises.rt;
         'passwords: for _ in rt.forever() {
-            let Some(Done { place, password }) = self.premises.hashing.collect(rt, self.at) else {
+            let Some(Done { ticket, password }) = self.premises.hashing.collect(rt, self.at) else {
                 return;
             };
-            if self.board.adopt(place.key, place.number, password) {
-                self.serve(poller, place.key);
+            if self.board.adopt(ticket.key, ticket.number, password) {
+                self.serve(poller, ticket.key);
             }
         }
     }
