@@ -9,7 +9,9 @@ mod lines;
 mod present;
 mod request_counts;
 
-pub use connection_counts::{ConnectionCounts, Departure, Rejection};
+pub use connection_counts::{
+    ConnectionCounts, Departure, DepartureRow, REJECTION_COUNT, Rejection, RejectionRow,
+};
 pub use counting_watch::CountingWatch;
 pub use counts::Counts;
 pub use desk_counts::DeskCounts;

@@ -7,4 +7,4 @@ pub invariant_of-self-2 : goal.invariant_of-self-2
 invariant_of-self-2 g c =
     stands_added (Takes g.L.Log.keeping) (Refuses g.L.Log.keeping) c.self.inside.premises.now.settings.now.callers (g.L.Log.keeping c.self.inside.premises.now.log.now)
     c.self.inside.premises.now.settings.now.connections c.self.inside.left c.in-Some.left c.in-Ok-add.key _ c.in-Ok.witness c.new-socket.result c.self.inside.board c.add.new.self
-    c.in-Ok-add.ensures.added (_, (_, _, c.in-Some-terms_of.ensures.some), c.in-Ok.ensures) (omega (arith, c.in-Some.ensures)) c.self.invariant
+    c.in-Ok-add.ensures.added (_, (_, _, c.in-Ok-terms_of.ensures.may), c.in-Ok.ensures) (omega (arith, c.in-Some.ensures)) c.self.invariant
