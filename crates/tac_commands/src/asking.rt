@@ -51,7 +51,10 @@ enum Unanswered {
 }
 
 // Which server is asked.
-fn server_address<'a, R: Eprint>(rt: &R, matches: &ArgMatches<'a>) -> Result<ServerAddress<'a>, Status> {
+fn server_address<'a, R: Eprint>(
+    rt: &R,
+    matches: &ArgMatches<'a>,
+) -> Result<ServerAddress<'a>, Status> {
     let word = word_of(matches, TO);
     match address_of(word) {
         Some(address) => Ok(address),

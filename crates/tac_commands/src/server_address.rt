@@ -59,7 +59,11 @@ pub(crate) fn address_of(text: &str) -> Option<ServerAddress<'_>> {
 }
 
 /// Calls the first of a server's addresses that takes the call until a moment.
-pub(crate) fn connect<H>(host: &H, server: ServerAddress<'_>, until: Duration) -> io::Result<TcpStream>
+pub(crate) fn connect<H>(
+    host: &H,
+    server: ServerAddress<'_>,
+    until: Duration,
+) -> io::Result<TcpStream>
 where
     H: Clock + Net<Listener = TcpListener, Stream = TcpStream>,
 {

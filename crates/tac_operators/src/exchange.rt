@@ -2,7 +2,7 @@
 
 ghost use Rattle.std.specs.Prelude.{None};
 
-use crate::board::{Board, Operator, Ruling, Message};
+use crate::board::{Board, Message, Operator, Ruling};
 use basics::Bytes;
 use pol_names::Name;
 use std::alloc::{AllocError, Global};

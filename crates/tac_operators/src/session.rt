@@ -1,7 +1,7 @@
 //! One operator at the socket: his lines, and what each of them is answered.
 
 use crate::attending::OPERATORS;
-use crate::board::{Operator, Message};
+use crate::board::{Message, Operator};
 use crate::exchange::{Exchange, Reply};
 use crate::lines::Begun;
 use crate::part::Part;
