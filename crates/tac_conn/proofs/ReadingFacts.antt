@@ -111,6 +111,7 @@ module _ (conn : Conn) (packet : Packet) (earlier : List Packet) (stands : Stand
 
   pub open_received : conn.closed ≡ false → (result : Result (Received × Step) AllocError) → IfOk result (λ taken. taken.0 ≡ received_as packet (judged_in conn packet).0)
       → IfOk result (λ taken. taken.1 ≡ step_of (outcome_in conn packet)) → IfOk result (λ taken. taken.0 ≡ without_ask taken.1 (received earlier packet))
+  unfolding received
   open_received alive (Err error) is went = is
   open_received alive (Ok taken) is went =
       is ∙ beside_step packet (outcome_in conn packet) (read_in conn packet)
@@ -123,6 +124,7 @@ module _ (conn : Conn) (packet : Packet) (earlier : List Packet) (stands : Stand
   late_read shut = let closed : is_closed earlier ≡ true = sym stands.closed ∙ shut in rw closed refl
 
   pub late_received : conn.closed ≡ true → too_late packet ≡ without_ask steps.Close (received earlier packet)
+  unfolding received
   late_received shut =
       sym (ap (λ (said : Outcome). received_as packet (noted said (read_after earlier packet))) (closed_outcome conn packet earlier stands shut)
       ∙ ap (λ (reading : Reading). received_as packet reading) (late_read shut))
@@ -219,6 +221,7 @@ module _ (earlier : List Packet) (packet : Packet) where
   outcome_shares = by_both (is_closed earlier) _ _ _ _ tt (judged_shares (is_single (packet ∷ earlier)) (open_sessions earlier) packet (open_session earlier packet.header.session))
 
   whole_with : (ask : Ask) (slot : Slot) → IsWholeWith ask slot earlier packet
+  unfolding received
   whole_with ask slot e =
       let reading = read_after earlier packet in
       let told : noted (outcome earlier packet) reading ≡ reading = ap (λ (said : Outcome). noted said reading) e in

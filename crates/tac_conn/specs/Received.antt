@@ -30,7 +30,7 @@ abbrev pub received_as : Packet → Reading → Received
 received_as packet reading = record { session = packet.header.session; reading = reading }
 
 -- its session, and what is told of its reading
-abbrev pub received : List Packet → Packet → Received
+unfoldable pub received : List Packet → Packet → Received
 received earlier packet =
     received_as packet (noted (outcome earlier packet) (read_after earlier packet))
 
