@@ -110,16 +110,31 @@ less Unserved = Unserved
 less OutOfTurn = OutOfTurn
 less Aborted = Aborted
 
--- .. and with those of this ask
+-- .. and with these
+abbrev pub logged_in : List ℕ → Reading → Reading
+logged_in user (Login asker) = Login (named asker user)
+logged_in user reading = reading
+
+abbrev pub commanded : List ℕ → List ℕ → Reading → Reading
+commanded user told (Command asker arguments line) =
+    Command (named asker user) arguments (Some told)
+commanded user told reading = reading
+
+abbrev pub served : List ℕ → Reading → Reading
+served user (Command asker arguments line) = Command (named asker user) arguments line
+served user reading = reading
+
+abbrev pub accounted : List ℕ → List ℕ → Reading → Reading
+accounted user told (Account asker kind task arguments) =
+    Account (named asker user) kind told arguments
+accounted user told reading = reading
+
+-- .. which this ask has
 abbrev pub rejoined : Ask → Reading → Reading
-rejoined (Authenticate user service proof) (Login asker) = Login (named asker user)
-rejoined (Authorise user line) (Command asker arguments none) =
-    Command (named asker user) arguments (Some line)
-rejoined (Serve user service protocol) (Command asker arguments line) =
-    Command (named asker user) arguments line
-rejoined (Store item) (Account asker kind none arguments) =
-    Account (named asker item.user) kind item.task arguments
-rejoined ask reading = reading
+rejoined (Authenticate user service proof) reading = logged_in user reading
+rejoined (Authorise user line) reading = commanded user line reading
+rejoined (Serve user service protocol) reading = served user reading
+rejoined (Store item) reading = accounted item.user item.task reading
 
 -- what the judge has of it beside the outcome
 abbrev pub beside : Outcome → Reading → Reading

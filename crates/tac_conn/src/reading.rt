@@ -2,6 +2,7 @@
 
 ghost use Rattle.std.specs.Prelude.{◌≡◌, IfOk};
 ghost use Rattle.tac_conn.specs.Asker.{named, start_asker};
+ghost use Rattle.tac_conn.specs.Reading.{logged_in, commanded, served, accounted};
 
 use crate::ask::Ask;
 use basics::{Bytes, Sequence};
@@ -86,7 +87,7 @@ pub(crate) fn asker_of(start: Start) -> (Asker, Bytes)
 
 /// What a packet was read as (RFC 8907, sections 5 to 7). A body is read once: what is told of the
 /// packet, and as what it counts, is by this.
-#[derive(Debug)]
+#[derive(Debug, Drop)]
 pub enum Reading {
     /// A START, or a CONTINUE, that is answered by a question: its login goes on.
     GoesOn,
@@ -115,83 +116,69 @@ pub enum Reading {
     Aborted,
 }
 
-// By hand, so that a proof of an owner has one call at each exit, not a drop of each field.
-impl Drop for Reading {
-    fn drop(self) {
-        match self {
-            Reading::GoesOn => {}
-            Reading::Login(_) => {}
-            Reading::Command {
-                asker: _,
-                arguments: _,
-                line: _,
-            } => {}
-            Reading::Account {
-                asker: _,
-                kind: _,
-                task: _,
-                arguments: _,
-            } => {}
-            Reading::BadBody => {}
-            Reading::Unserved => {}
-            Reading::OutOfTurn => {}
-            Reading::Aborted => {}
-        }
+// A login under this name; anything else as it is.
+pub(crate) fn login_of(reading: Reading, user: Bytes) -> Reading
+    ensures { result ≡ logged_in user reading }
+{
+    match reading {
+        Reading::Login(asker) => Reading::Login(asker.named(user)),
+        _ => reading,
     }
 }
 
-impl Reading {
-    ghost use Rattle.std.specs.Prelude.{◌≡◌};
-    ghost use Rattle.tac_conn.specs.Reading.{rejoined};
+// A command under this name, with this line; anything else as it is.
+pub(crate) fn command_of(reading: Reading, user: Bytes, told: Bytes) -> Reading
+    ensures { result ≡ commanded user told reading }
+{
+    match reading {
+        Reading::Command {
+            asker,
+            arguments,
+            line: _,
+        } => Reading::Command {
+            asker: asker.named(user),
+            arguments,
+            line: Some(told),
+        },
+        _ => reading,
+    }
+}
 
-    /// The same with what this ask has: the user, the line and the task.
-    pub(crate) fn with_ask(self, ask: Ask) -> Reading
-        ensures { result ≡ rejoined ask self }
-    {
-        match (ask, self) {
-            (Ask::Authenticate { user, .. }, Reading::Login(asker)) => {
-                Reading::Login(asker.named(user))
-            }
-            (
-                Ask::Authorise { user, line },
-                Reading::Command {
-                    asker,
-                    arguments,
-                    line: _,
-                },
-            ) => Reading::Command {
-                asker: asker.named(user),
-                arguments,
-                line: Some(line),
-            },
-            (
-                Ask::Serve { user, .. },
-                Reading::Command {
-                    asker,
-                    arguments,
-                    line,
-                },
-            ) => Reading::Command {
-                asker: asker.named(user),
-                arguments,
-                line,
-            },
-            (
-                Ask::Account(record),
-                Reading::Account {
-                    asker,
-                    kind,
-                    task: _,
-                    arguments,
-                },
-            ) => Reading::Account {
-                asker: asker.named(record.user),
-                kind,
-                task: record.task,
-                arguments,
-            },
-            (_, reading) => reading,
-        }
+// Another service under this name; anything else as it is.
+pub(crate) fn service_of(reading: Reading, user: Bytes) -> Reading
+    ensures { result ≡ served user reading }
+{
+    match reading {
+        Reading::Command {
+            asker,
+            arguments,
+            line,
+        } => Reading::Command {
+            asker: asker.named(user),
+            arguments,
+            line,
+        },
+        _ => reading,
+    }
+}
+
+// A record under this name, of this task; anything else as it is.
+pub(crate) fn account_of(reading: Reading, user: Bytes, told: Bytes) -> Reading
+    ensures { result ≡ accounted user told reading }
+{
+    match reading {
+        Reading::Account {
+            asker,
+            kind,
+            task: _,
+            arguments,
+        } => Reading::Account {
+            asker: asker.named(user),
+            kind,
+            task: told,
+            arguments,
+        },
+        _ => reading,
     }
 }
 
@@ -219,7 +206,7 @@ impl Received {
     {
         Received {
             session: self.session,
-            reading: self.reading.with_ask(ask),
+            reading: ask.rejoined(self.reading),
         }
     }
 }

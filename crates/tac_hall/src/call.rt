@@ -40,8 +40,20 @@ impl Drop for Call {
 }
 
 impl Call {
-    ghost use Rattle.std.specs.Prelude.{◌≡◌};
+    ghost use Rattle.std.specs.Prelude.{◌≡◌, Some};
+    ghost use Rattle.tac_conn.specs.declared.ask.Ask.{Ask as AskValue};
     ghost use Rattle.tac_hall.specs.Calls.{is_stop};
+    ghost use Rattle.tac_hall.specs.declared.call.Call.TheVariants as calls;
+
+    /// What a connection asked, if that was called.
+    pub fn into_ask(self) -> Option<Ask>
+        ensures { (ask : AskValue) → self ≡ calls.Ask ask → result ≡ Some ask }
+    {
+        match self {
+            Call::Ask(ask) => Some(ask),
+            _ => None,
+        }
+    }
 
     /// Whether no further call is taken.
     pub fn is_stop(&self) -> bool

@@ -171,6 +171,20 @@ impl Record {
         })
     }
 
+    /// The user and the task.
+    pub fn into_texts(self) -> (Bytes, Bytes)
+        ensures { result ≡ (self.user, self.task) }
+    {
+        let Record {
+            user,
+            kind: _,
+            task,
+            elapsed: _,
+            line: _,
+        } = self;
+        (user, task)
+    }
+
     /// An equal record. The error means that memory ran out.
     pub fn copy(&self, alloc: Global) -> Result<Record, AllocError>
         ensures { IfOk result (λ copy. copy ≡ self.now) }

@@ -51,7 +51,7 @@ pub(crate) fn ask_in(call: Call) -> Ask
     requires { (ask : Ask) × (call ≡ calls.Ask ask) }
     ensures { call ≡ calls.Ask result }
 {
-    let Call::Ask(ask) = call else {
+    let Some(ask) = call.into_ask() else {
         unreachable!()
     };
     ask
