@@ -1,6 +1,6 @@
 -- What a packet is read as, by what is kept and by the packets, and what its ask has of that.
 use Rattle.std.proofs.Common.{◌≡◌, ◌≢◌, ℕ, Bool, true, false, cond, List, [], ◌∷◌, length, Option, None, Some, Result, Ok, Err, IfOk, refl, sym, ap, subst, ◌∙◌}
-use Rattle.std.specs.Prelude.{not, codes, nat_le, nat_lt, ◌==◌, ◌%◌}
+use Rattle.std.specs.Prelude.{not, codes, nat_le, nat_lt, bytes_eq, slice_get, ◌==◌, ◌%◌}
 use Rattle.std.specs.Result.{result_ok}
 use Rattle.std.specs.declared.alloc.AllocError.{AllocError}
 use Rattle.tac_wire.specs.Flag.{has_flag}
@@ -17,7 +17,7 @@ use Rattle.tac_request.specs.declared.line.LineOf.{LineOf}
 use Rattle.tac_request.specs.declared.line.LineOf.TheVariants.{Line, BadArgument, NotShell}
 use Rattle.tac_request.specs.declared.line.Requested.{Requested}
 use Rattle.tac_request.specs.declared.line.Requested.TheVariants as asks
-use Rattle.tac_request.specs.Line.{line_of, requested, requested_by, without_line}
+use Rattle.tac_request.specs.Line.{line_of, requested, requested_by, without_line, values_under, protocol_of}
 use Rattle.tac_request.specs.declared.record.AcctKind.{AcctKind}
 use Rattle.tac_request.specs.Record.{kind_of as acct_kind_of}
 use Rattle.tac_conn.specs.declared.ask.Ask.{Ask}
@@ -177,13 +177,15 @@ module _ (slot : Slot) where
   line_shares : (asker : Asker) (user : List ℕ) (args : List (List ℕ)) (line : LineOf) → asker.user ≡ user → Shares (Command asker args (line_text line)) (requested_outcome slot user (requested_by line args))
   line_shares asker user args (Line line) e = ap (λ (name : List ℕ). Command (record asker { user = name }) args (Some line)) (sym e)
   line_shares asker user args BadArgument e = tt
-  line_shares asker user args NotShell e = other (requested_by NotShell args)
+  line_shares asker user args NotShell e = without (slice_get (values_under (codes "service") args) 0) (protocol_of args)
     where
-      other : (r : Requested) → Shares (Command asker args None) (requested_outcome slot user r)
-      other (asks.Shell line) = absurd cc
-      other (asks.Other service protocol) = ap (λ (name : List ℕ). Command (record asker { user = name }) args None) (sym e)
-      other asks.NoSign = tt
-      other asks.NoService = tt
+      other : (b : Bool) (service : List ℕ) (protocol : Option (List ℕ)) → Shares (Command asker args None) (requested_outcome slot user (cond b asks.NoService (asks.Other service protocol)))
+      other true service protocol = tt
+      other false service protocol = ap (λ (name : List ℕ). Command (record asker { user = name }) args None) (sym e)
+
+      without : (first protocol : Option (List ℕ)) → Shares (Command asker args None) (requested_outcome slot user (without_line first protocol))
+      without None protocol = tt
+      without (Some service) protocol = other (bytes_eq service (codes "shell")) service protocol
 
   request_shares : (r : Result AuthorRequest BodyFault) → Shares (request_as (result_ok r)) (request_read slot (result_ok r))
   request_shares (Err fault) = tt

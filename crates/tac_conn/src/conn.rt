@@ -123,8 +123,10 @@ impl Conn {
         ensures memory { OnErr result (IsTrue (standing.is_read_in self.old packet.now)) }
     {
         let (reading, outcome) = self.judge(packet)?;
-        let step = self.follow(&packet.header, outcome)?;
-        Ok((received_as(&packet.header, reading), step))
+        match self.follow(&packet.header, outcome) {
+            Ok(step) => Ok((received_as(&packet.header, reading), step)),
+            Err(error) => Err(error),
+        }
     }
 
     /// Takes a packet that came, without its pad, where no answer is waited for, and says what it

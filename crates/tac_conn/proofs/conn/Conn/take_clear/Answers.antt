@@ -1,4 +1,4 @@
-use Rattle.std.proofs.Common.{ap, sym, subst, ◌∷◌, ◌≡◌}
+use Rattle.std.proofs.Common.{ap, sym, subst, ◌∷◌, ◌≡◌, ◌∙◌}
 use Rattle.std.specs.Prelude.{IfOk}
 use Rattle.std.proofs.lemmas.Result.{on_ok_weaker, on_err_weaker, IfOk-weaker}
 use Rattle.tac_conn.specs.declared.conn.Conn.{Conn}
@@ -21,7 +21,7 @@ returns-clause-step c = λ earlier stands.
     (outcome_in-outcome c.args.self.now c.args.packet.now earlier stands c.if-self.false) c.take_open.ensures.step
 
 pub returns-then-self-clause-received : goal.returns-then-self-clause-received
-returns-then-self-clause-received c = λ earlier stands. late_received c.args.self.now c.args.packet.now earlier stands c.if-self.true
+returns-then-self-clause-received c = λ earlier stands. c.received_as.ensures ∙ late_received c.args.self.now c.args.packet.now earlier stands c.if-self.true
 
 pub returns-clause-received : goal.returns-clause-received
 returns-clause-received c = λ earlier stands.
