@@ -401,7 +401,7 @@ fn write_bad_header(
 }
 
 // The line of a packet whose last reply says so, and whether it has one.
-#[tactic(auto, using(crate::proofs::LineFacts::head_told_end))]
+#[tactic(auto, using(crate::proofs::LineFacts::none_told, crate::proofs::LineFacts::head_told_end))]
 fn write_packet(
     out: &mut Vec<u8>,
     time: Option<&Bytes>,
@@ -409,7 +409,7 @@ fn write_packet(
     received: &Received,
     said: &Option<Said>,
 ) -> io::Result<bool>
-    ensures told { IfOk result (λ told. told ≡ is_some (told_as received.now.reading said.now)) }
+    ensures told { IfOk result (λ has. has ≡ is_some (told_as received.now.reading said.now)) }
     ensures line { OnOk result (AddsLine (option_copied time.entry) origin.now
         out.old.items out.new.items
         (noted received.now.session (told_as received.now.reading said.now))) }
@@ -431,7 +431,7 @@ fn write_notice(
     origin: &Origin,
     notice: &Notice,
 ) -> io::Result<bool>
-    ensures told { IfOk result (λ told. told ≡ is_some (noted_of notice.now)) }
+    ensures told { IfOk result (λ has. has ≡ is_some (noted_of notice.now)) }
     ensures line { OnOk result (AddsLine (option_copied time.entry) origin.now
         out.old.items out.new.items (noted_of notice.now)) }
 {
@@ -461,7 +461,7 @@ pub fn push_line(
     origin: &Origin,
     notice: &Notice,
 ) -> Result<bool, AllocError>
-    ensures told { IfOk result (λ told. told ≡ is_some (noted_of notice.now)) }
+    ensures told { IfOk result (λ has. has ≡ is_some (noted_of notice.now)) }
     ensures line { OnOk result (AddsLine (option_copied time.entry) origin.now
         out.old.items out.new.items (noted_of notice.now)) }
     // What is told is read back from the line: events with the same line are the same.

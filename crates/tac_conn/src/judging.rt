@@ -88,9 +88,9 @@ fn judge_body(
     }
 }
 
-/// What a clear packet is read as, and its outcome, on a connection that is single or isn't, with so many sessions
-/// open, its own among them where it is open. The error means that memory ran out, for a packet
-/// that is read.
+/// What a clear packet is read as, and its outcome, on a connection that is single or isn't, with
+/// so many sessions open, its own among them where it is open. The error means that memory ran out,
+/// for a packet that is read.
 #[tactic(auto, unfolding(crate::specs::Judging::judged, crate::specs::Reading::read_as))]
 pub(crate) fn judge(
     alloc: Global,

@@ -40,14 +40,12 @@ impl Drop for Call {
 }
 
 impl Call {
-    ghost use Rattle.std.specs.Prelude.{◌≡◌, Some};
-    ghost use Rattle.tac_conn.specs.declared.ask.Ask.{Ask as AskValue};
-    ghost use Rattle.tac_hall.specs.Calls.{is_stop};
-    ghost use Rattle.tac_hall.specs.declared.call.Call.TheVariants as calls;
+    ghost use Rattle.std.specs.Prelude.{◌≡◌};
+    ghost use Rattle.tac_hall.specs.Calls.{asked_in, is_stop};
 
     /// What a connection asked, if that was called.
     pub fn into_ask(self) -> Option<Ask>
-        ensures { (ask : AskValue) → self ≡ calls.Ask ask → result ≡ Some ask }
+        ensures { result ≡ asked_in self }
     {
         match self {
             Call::Ask(ask) => Some(ask),
