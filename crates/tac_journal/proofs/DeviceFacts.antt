@@ -13,6 +13,16 @@ use Rattle.tac_journal.specs.Lines.{IsLineAt}
 use Rattle.tac_journal.specs.Logged.{IsLogged}
 use Rattle.tac_journal.specs.Device.{HasLine, HasLines, HasLinesButLast, LacksLine, IsNoted, Place, Takes, Refuses}
 
+-- nothing was noted, and nothing appended
+pub none_at : {S : Type 0} (takes : S → List ℕ → S → Type 0) (origin : Origin) (time : List ℕ) (noted : Option Noted) (old : S) → IsLineAt time origin noted None → HasLine takes origin noted old old
+none_at takes origin time None old made = refl
+none_at takes origin time (Some noted) old made = absurd made
+
+-- no line came to the log
+pub lacks : {S : Type 0} (refuses : S → List ℕ → S → Type 0) (origin : Origin) (noted : Option Noted) (old : S) → LacksLine refuses origin noted old old
+lacks refuses origin None old = refl
+lacks refuses origin (Some noted) old = inl refl
+
 module _ {S : Type 0} (takes refuses : S → List ℕ → S → Type 0) where
   -- a line that was made for this time was taken, or refused
   noted_at : (result : Result (Unit {0}) Refused) (origin : Origin) (time : List ℕ) (noted : Noted) (old new : S)
@@ -25,14 +35,6 @@ module _ {S : Type 0} (takes refuses : S → List ℕ → S → Type 0) where
       → ((wanted : List ℕ) → line.items ≡ wanted → IsLogged takes refuses result wanted old new) → IsNoted takes refuses result origin noted old new
   logged_at result origin time None line old new made logged = absurd made
   logged_at result origin time (Some noted) line old new made logged = noted_at result origin time noted old new (logged _ made)
-
-  pub none_at : (origin : Origin) (time : List ℕ) (noted : Option Noted) (old : S) → IsLineAt time origin noted None → HasLine takes origin noted old old
-  none_at origin time None old made = refl
-  none_at origin time (Some noted) old made = absurd made
-
-  pub lacks : (origin : Origin) (noted : Option Noted) (old : S) → LacksLine refuses origin noted old old
-  lacks origin None old = refl
-  lacks origin (Some noted) old = inl refl
 
   -- one line, and then those of the others
   line_and : (origin : Origin) (noted : Option Noted) (more : List Noted) (old mid new : S) → HasLine takes origin noted old mid → HasLines takes origin more mid new

@@ -1,10 +1,11 @@
 //! The log of a connection of a device.
 
-ghost use Rattle.std.specs.Prelude.{◌≡◌, List, ℕ};
+ghost use Rattle.std.specs.Prelude.{◌≡◌, List, ℕ, IfOk};
 ghost use Rattle.tac_audit.specs.Noted.{noted_of, noted_of_each};
 ghost use Rattle.tac_audit.specs.Witness.{AreTold};
 ghost use Rattle.tac_audit.specs.declared.notice.Notice.{Notice as NoticeValue};
 ghost use Rattle.tac_journal.specs.Device.{HasLines, HasLinesButLast, IsNoted};
+ghost use Rattle.tac_journal.specs.Lines.{IsLineAt};
 
 use crate::lines::line_of;
 use crate::moment::Moments;
@@ -57,16 +58,26 @@ impl<'a, C: Clock, F: Append + Drop> DeviceLog<'a, C, F> {
         }
     }
 
-    // Appends the line of a notice, at the present time, if it has one.
+    // The line of a notice, at the present time, if it has one.
+    fn line(&self, notice: &Notice) -> Result<Option<Vec<u8>>, Refused>
+        ensures { IfOk result (λ line. (time : List ℕ)
+            × IsLineAt time self.now.origin (noted_of notice.now) line) }
+    {
+        let time = self.moments.now(self.alloc, self.clock)?;
+        let line = line_of(self.alloc, &time, &self.origin, notice)?;
+        Ok(line)
+    }
+
+    // Appends it, if it has one.
     fn append(&mut self, notice: &Notice) -> Result<(), Refused>
         ensures line { IsNoted F.takes F.refuses result self.old.origin (noted_of notice.now)
             self.old.log self.new.log }
         ensures origin { self.new.origin ≡ self.old.origin }
     {
-        let time = self.moments.now(self.alloc, self.clock)?;
-        match line_of(self.alloc, &time, &self.origin, notice)? {
-            Some(line) => log_lines(&mut self.log, Ok(line)),
-            None => Ok(()),
+        match self.line(notice) {
+            Ok(Some(line)) => log_lines(&mut self.log, Ok(line)),
+            Ok(None) => Ok(()),
+            Err(refused) => Err(refused),
         }
     }
 }
