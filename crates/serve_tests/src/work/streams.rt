@@ -148,9 +148,8 @@ pub(crate) struct Scribe {
 // Whether it has the user whom its ask had meanwhile.
 fn is_whole(received: &Received) -> bool {
     match &received.reading {
-        Reading::Login(asker)
-        | Reading::Command { asker, .. }
-        | Reading::Account { asker, .. } => !asker.user.is_empty(),
+        Reading::Login(asker) | Reading::Command { asker, .. } | Reading::Account { asker, .. } =>
+            !asker.user.is_empty(),
         _ => true,
     }
 }

@@ -6,7 +6,7 @@ use basics::{Bytes, Sequence};
 use std::alloc::{AllocError, Global};
 use std::test::Fail;
 use tac_request::{
-    AcctKind, AcctRequest, Record, acct_kind, read_acct_reply, read_acct_request, write_acct_reply,
+    AcctKind, Record, acct_kind, read_acct_reply, read_acct_request, write_acct_reply,
 };
 
 // Flags, method, level, authen_type, service, the three fields, and the arguments.
