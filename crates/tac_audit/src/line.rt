@@ -471,9 +471,9 @@ pub fn push_line(
     ensures unsaid { (start : StartValue) (secret : List ℕ) (said : Option SaidValue) →
         told_as (start_as (Some (record start { extra = secret }))) said
         ≡ told_as (start_as (Some start)) said }
-    ensures untyped { (asker : AskerValue) (answer : ContinueValue) (typed data : List ℕ)
+    ensures untyped { (asker : AskerValue) (answer : ContinueValue) (typed extra : List ℕ)
         (said : Option SaidValue) →
-        told_as (answer_as asker (record answer { user_msg = typed; extra = data })) said
+        told_as (answer_as asker (record answer { user_msg = typed; extra = extra })) said
         ≡ told_as (answer_as asker answer) said }
 {
     out.reserve(ROOM)?;
