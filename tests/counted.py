@@ -72,8 +72,8 @@ at 192.0.2.2
 tls
 """
 ENDED = (
-    "finished unlisted protocol idle login_idle not_taken packet_memory read write log hashing memory "
-    "server"
+    "finished unlisted changed protocol idle login_idle not_taken packet_memory read write log hashing "
+    "memory server"
 )
 REFUSED = "unknown_device at_once per_address served memory"
 REFUSED_BY_PROXIES = (
@@ -567,18 +567,22 @@ def devices_that_come_back(program):
 
 
 def taken_out_in_its_first_packet(program):
-    """A device with two keys, whose packet isn't whole when it is taken out."""
-    listed = {"key": ("--devices", "devices"), "devices": LISTED}
-    with counting(program, **listed) as (server, operator, status):
-        with open_device(server, status, source="127.0.0.2") as device:
-            sent = packet(ASK, OLD_KEY, flag=KEPT)
-            device.sendall(sent[:20])
-            replace(server, "devices", f"device one; at 127.0.0.1; key {NEW_KEY.decode()}")
-            told(operator, ("reload devices", "devices ok: 1 devices, 1 prefixes"))
-            with contextlib.suppress(ConnectionError):
-                device.sendall(sent[20:])
-            status.after("the rest of a packet", "devices -3, connections -1, ended unlisted +1")
-        stops(server, operator)
+    """A device with two keys, whose packet isn't whole when it is taken out, or loses its keys."""
+    one, listed = f"device one; at 127.0.0.1; key {NEW_KEY.decode()}", {"devices": LISTED}
+    for text, many, ended in (
+        (one, 1, "devices -3, connections -1, ended unlisted +1"),
+        (f"{one}\ndevice two; at 127.0.0.2; tls", 2, "devices -2, connections -1, ended changed +1"),
+    ):
+        with counting(program, key=("--devices", "devices"), **listed) as (server, operator, status):
+            with open_device(server, status, source="127.0.0.2") as device:
+                sent = packet(ASK, OLD_KEY, flag=KEPT)
+                device.sendall(sent[:20])
+                replace(server, "devices", text)
+                told(operator, ("reload devices", f"devices ok: {many} devices, {many} prefixes"))
+                with contextlib.suppress(ConnectionError):
+                    device.sendall(sent[20:])
+                status.after("the rest of a packet", ended)
+            stops(server, operator)
 
 
 def edits_that_were_kept(program):

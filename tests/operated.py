@@ -493,6 +493,82 @@ def users_who_are_gone(program):
     converses(program, FEWER_AND_FEWER, complained=complained)
 
 
+# A password has another hash by another salt.
+HASH, OTHER = (
+    "$6$saltsalt$temoAzB1LMUGfs39YsEHhlSSY8ud5tjHcrE1ZINzi8TsesBqqjufdtA7fVhnojTHlBhKZVF0Q9wxWAcE707Cb0",
+    "$6$rounds=1000$a.b/c$DTK7hHK5OlG9lAtBisZZCIY54BYeEOnsDdkgHm/Wcq/9YSzDqMBrwZrornT.TWCVBpL3I8Y8Cl1mhQ3EWAHpl.",
+)
+OTHER_SECRETS = f"""
+    < user bob; login lake; user eve; enable high; user ann
+    > reload
+    ok
+    |user bob now denies: show |
+    user bob login set
+    user eve enable set
+    > reload
+    ok
+    > clear enable eve
+    ok
+    > begin
+    ok
+    > clear login bob
+    kept 1
+    > commit
+    ok
+    > reload
+    ok
+    user bob login set
+    user eve enable set
+    < policy 3; user ann; permit x; user bob; login-hash {HASH}; service s; user eve; login high; enable high
+    > reload
+    ok
+    user ann now permits: x
+    user bob service s now granted
+    user bob login changed
+    user eve login set
+    < policy 3; user bob; login-hash {OTHER}; enable-hash {OTHER}; user new; login n
+    > reload
+    ok
+    user ann now denies: x
+    user bob service s now refused
+    user bob login changed
+    user bob enable set
+    user new login set
+    user eve login cleared
+    user eve enable cleared
+    2 of 3 users are gone
+    < policy 3; user bob; login-hash {OTHER}; enable-hash {HASH}; login x
+    > reload
+    fault line 5 3 Repeated
+    < policy 3; user new; login {HASH}; user bob; enable-hash {OTHER}; login {OTHER}
+    > reload
+    ok
+    user new login changed
+    user bob login changed
+    < policy 3; user new; login n; user bob; deny .*a..............
+    > reload
+    fault TooManyStates user bob
+    """
+
+
+def secrets_that_a_reload_changes(program):
+    """It tells whose they are, which, and what became of each, after all that changes of lines and
+    services, and before how many users are gone. Edits are answered without that, alone and in batches,
+    and a reload compares with what they made. What is refused tells nothing."""
+    converses(program, OTHER_SECRETS, complained=GONE.format(2, 3))
+    with Server(program, policy="user bob\nlogin lake\nuser eve\n") as server:
+        starts(server)
+        types(server, "login bob boat", "ok")
+        types(server, "begin", "ok")
+        types(server, "enable bob high", "kept 1")
+        types(server, "login eve sea", "kept 2")
+        types(server, "commit", "ok")
+        told = ("user bob login changed", "user bob enable cleared", "user eve login cleared")
+        types(server, "reload", "ok", *told)
+        types(server, "reload", "ok")
+        server.ends("quit\n", is_listening=False)
+
+
 NOBODY_AFTER_BOB = """
     < # nobody
     > reload

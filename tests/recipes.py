@@ -39,41 +39,37 @@ GIT = """#!/bin/sh
 [ "$*" = "show origin/main:campus.policy" ] && exec cat "$(dirname "$0")/main.policy"
 exit 1
 """
-# A program that finds no edits which a server takes.
-WITHOUT_EDITS = """#!/bin/sh
-case "$*" in *--edits*) echo "batch 1: refused 11 TooManyStates user bob"; exit 1 ;; esac
-exec '{}' "$@"
-"""
 HASH = "$6$saltsalt$temoAzB1LMUGfs39YsEHhlSSY8ud5tjHcrE1ZINzi8TsesBqqjufdtA7fVhnojTHlBhKZVF0Q9wxWAcE707Cb0"
 
 
 def nothing_changes(program):
     passes(program, MAIN, "same\n")
-    fails(program, MAIN, "same\nlogin bob\n", "-login bob")
+    fails(program, MAIN, "user bob login changed\n", "-user bob login changed", "+same")
 
 
 def a_login_is_replaced(program):
-    changes(program, MAIN.replace("old-lake", "new lake "), "login bob")
+    changes(program, MAIN.replace("old-lake", "new lake "), "user bob login changed")
 
 
 def a_login_becomes_a_hash(program):
     branch = "policy 3\n" + MAIN.replace("login old-lake", f"login-hash {HASH}")
-    changes(program, branch, "login-hash bob")
+    changes(program, branch, "user bob login changed")
     branch = branch.replace("login eve-boat", f"login eve-boat\nenable-hash {HASH}")
-    fails(program, branch, "same\nlogin-hash bob\n", "+enable-hash eve")
+    fails(program, branch, "user bob login changed\n", "+user eve enable set")
 
 
 def an_enable_is_added(program):
-    changes(program, MAIN.replace("login old-lake", "login old-lake\nenable high"), "enable bob")
+    branch = MAIN.replace("login old-lake", "login old-lake\nenable high")
+    changes(program, branch, "user bob enable set")
 
 
 def a_login_is_removed(program):
-    changes(program, MAIN.replace("login old-lake\n", ""), "clear login bob")
+    changes(program, MAIN.replace("login old-lake\n", ""), "user bob login cleared")
 
 
 def a_user_is_removed(program):
     """He could log in, and nothing else."""
-    changes(program, MAIN.replace("user zed\nlogin zed-boat\n", ""), "remove user zed")
+    changes(program, MAIN.replace("user zed\nlogin zed-boat\n", ""), "user zed login cleared")
 
 
 def several_secrets_change(program):
@@ -83,23 +79,14 @@ def several_secrets_change(program):
     passes(program, branch.replace("user zed\nlogin zed-boat\n", ""), blocks()[1])
 
 
-def there_are_no_edits(program):
-    """The branch would pass, did the job not see how that command ends."""
-    with tempfile.TemporaryDirectory(prefix="tacd-test-") as folder:
-        without = made(pathlib.Path(folder, "tacd"), WITHOUT_EDITS.format(program))
-        ended = job(without, MAIN, "same\n")
-    if ended.returncode == 0:
-        raise Wrong("without edits the job passes")
-
-
 def commands_of_reviews(program):
-    are_so(program, REVIEW, 13)
+    are_so(program, REVIEW, 14)
     are_so(program, TOP / "docs/LINT.md", 2)
 
 
 def are_so(program, page, least):
-    """Each command that reads examples prints what the page shows below it, of which there are so many, or
-    more. A file that the page shows, by `cat` or in a block with its name, is one that they may read too."""
+    """Each command that reads files prints what the page shows below it, of which there are so many, or
+    more: those of `examples/`, and those that the page shows, by `cat` or in a block with its name."""
     tried = 0
     with tempfile.TemporaryDirectory(prefix="tacd-test-") as folder:
         folder = pathlib.Path(folder)
@@ -112,15 +99,16 @@ def are_so(program, page, least):
             words = command.split()
             if words[0] == "cat":
                 (folder / words[1]).write_text(shown, "utf-8")
-            elif words[0] == "tacd" and is_of_examples(folder, command):
+            elif words[0] == "tacd" and has_its_files(folder, command):
                 tried += 1
                 prints(folder, command, shown)
     if tried < least:
-        raise Wrong(f"{tried} commands read examples")
+        raise Wrong(f"{tried} commands read files")
 
 
-def is_of_examples(folder, command):
-    return "examples/" in command and all((folder / it).exists() for it in READ.findall(command))
+def has_its_files(folder, command):
+    files = READ.findall(command)
+    return files != [] and all((folder / it).exists() for it in files)
 
 
 def commands_on(page):
@@ -144,8 +132,8 @@ def prints(folder, command, shown):
 
 def changes(program, branch, line):
     """The job passes exactly where the line is told. It shows the line, and no secret."""
-    passes(program, branch, f"same\n{line}\n")
-    fails(program, branch, "same\n", f"+{line}")
+    passes(program, branch, f"{line}\n")
+    fails(program, branch, "same\n", "-same", f"+{line}")
 
 
 def passes(program, branch, told):
@@ -154,11 +142,11 @@ def passes(program, branch, told):
         raise Wrong(f"of\n{branch}it is told\n{told}and the job fails:\n{ended.stdout}{ended.stderr}")
 
 
-def fails(program, branch, told, line):
+def fails(program, branch, told, *lines):
     ended = job(program, branch, told)
     compared = ended.stdout.removeprefix(ALL_CASES).splitlines()
     changed = [it for it in compared if re.match(r"[+-](?![+-]{2} )", it)]
-    if ended.returncode != 1 or changed != [line]:
+    if ended.returncode != 1 or changed != [*lines]:
         raise Wrong(f"of\n{branch}it is told\n{told}and the job ends with {ended.returncode}:\n{ended.stdout}")
 
 

@@ -1,7 +1,7 @@
 """Reviews that go by what the program itself printed before: the edits that `tacd diff --edits` prints
 make the new policy of the old one, and `tacd diff` tells of a policy and of what an edit makes of it
-what the console answers to the edit, and of two policies what it answers to `reload`. Each case is a
-function that raises Wrong where something goes otherwise."""
+what the console answers to the edit, and what became of secrets, and of two policies what it answers to
+`reload`. Each case is a function that raises Wrong where something goes otherwise."""
 
 import pathlib
 
@@ -128,15 +128,42 @@ def replayed(program, policy, lines):
     return list(zip(answers, policies))
 
 
+def secrets_of(policy):
+    """Of each user the lines that set secrets, by their first word, but for `-hash`."""
+    users = {}
+    for line in policy.splitlines():
+        word, _, rest = line.partition(" ")
+        if word == "user":
+            secrets = users.setdefault(rest.split()[0], {})
+        elif word in ("login", "enable", "login-hash", "enable-hash"):
+            secrets[word.removesuffix("-hash")] = line
+    return users
+
+
+def secrets_told(old, new):
+    """What became of secrets."""
+    before, after = secrets_of(old), secrets_of(new)
+    for user in [*after, *(it for it in before if it not in after)]:
+        for word in ("login", "enable"):
+            was, is_now = before.get(user, {}).get(word), after.get(user, {}).get(word)
+            if was != is_now:
+                became = "set" if was is None else "cleared" if is_now is None else "changed"
+                yield f"user {user} {word} {became}"
+
+
 def edits_are_told_as_the_console_tells_them(program):
-    """Not nearly all edits are refused, or change nothing. None is refused for want of memory."""
+    """But for secrets, of which the console tells nothing. Not nearly all edits are refused, or change
+    nothing. None is refused for want of memory."""
     lines = list(edits_by_chance(8907, 300))
     # As it is printed, after a line that asks nothing.
     old = replayed(program, POLICY, [""])[0][1]
     taken = changing = 0
+    became = set()
     for line, (answer, new) in zip(lines, replayed(program, old, lines)):
         if answer[0] == "ok":
-            told = "".join(f"{it}\n" for it in answer[1:]) or "same\n"
+            secrets = list(secrets_told(old, new))
+            became |= {it.partition(" login ")[2] for it in secrets}
+            told = "".join(f"{it}\n" for it in [*answer[1:], *secrets]) or "same\n"
             found = reviewed(program, ["diff"], old, new)
             if found != told:
                 raise Wrong(f"{line} of\n{old}is told as\n{found}and is answered\n{told}")
@@ -147,6 +174,8 @@ def edits_are_told_as_the_console_tells_them(program):
         old = new
     if taken <= 100 or changing <= 50:
         raise Wrong(f"{taken} edits are taken, and {changing} change something")
+    if not became >= {"set", "changed", "cleared"}:
+        raise Wrong(f"of secrets of a login is told: {became}")
 
 
 def users_of(policy):
@@ -160,12 +189,12 @@ def told_of_users(old, new):
 
 
 def reloads_are_told_as_the_console_tells_them(program):
-    """A server loads one policy after another, and prints each. Nearly all change something. What is
-    said of users who are gone is on standard error too."""
+    """A server loads one policy after another, and prints each. Nearly all change something, and many a
+    secret. What is said of users who are gone comes last, and is on standard error too."""
     policies = [
         replayed(program, POLICY, list(edits_by_chance(seed, 20)))[-1][1] for seed in range(1, 60)
     ]
-    changing = 0
+    changing = secrets = 0
     complained = ""
     with Server(program, policy=policies[0]) as server:
         starts(server)
@@ -177,10 +206,13 @@ def reloads_are_told_as_the_console_tells_them(program):
             types(server, "reload", "ok", *told, *gone)
             types(server, "policy", *new.splitlines())
             changing += len(told) > 0
+            secrets += any(secrets_told(old, new))
             complained += "".join(f"tacd: policy: {line}\n" for line in gone)
         server.ends("quit\n", complained=complained, is_listening=False)
     if changing <= 40:
         raise Wrong(f"{changing} policies change something")
+    if secrets <= 20:
+        raise Wrong(f"{secrets} policies change a secret")
 
 
 def loads(program, old, new):

@@ -20,7 +20,8 @@ Script number K of a seed is the same whatever the count is: `show` prints it, a
 reference makes of it. 30,000 scripts, the default, take about twenty minutes of one core.
 
 `pairs` draws pairs of policies, 3,000 of them, and types what `tacd diff --edits` prints of each at
-a console of the reference that has the first, which then has to have the second (pairs.py).
+a console of the reference that has the first, which then has to have the second; and compares what
+`tacd diff` tells of secrets with the reference (pairs.py).
 
 `changes` draws such pairs too, 300 of them, and compares what `tacd diff` tells of services with what
 a device is answered that asks for every service, for every user, under both policies (changes.py).

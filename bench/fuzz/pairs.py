@@ -1,12 +1,17 @@
-"""Compares what `tacd diff --edits` prints with what a console makes of it.
+"""Compares what `tacd diff --edits` prints with what a console makes of it, and what `tacd diff` tells
+of secrets with the reference.
 
 Of each pair of policies the lines are typed at a replay of the first one, by the reference: no line
 is refused, and then the policy has the subjects of the second, with all that they have there. All
 batches but the last have 64 edits, each edit changes something, and none is of a subject that both
 policies have alike.
+
+The lines of `tacd diff` about secrets are those of the reference, in its order, and come last. Where
+there are any, the status is 5.
 """
 
 import pathlib
+import re
 import subprocess
 import sys
 import tempfile
@@ -14,22 +19,31 @@ import time
 
 from generator.choices import Choices
 from generator.pairs import pair
+from reference.altered import altered_lines
 from reference.edits import read_edit
 from reference.policy import Refused, read_policy
 from reference.texts import lines_of
 
 MOST_DIFFERENCES = 5
 MOST_EDITS = 64
+OF_SECRETS = re.compile(r"user \S+ (login|enable) (set|changed|cleared)")
+SOMETHING_CHANGES = 5
 
 
 def compare(path, seed, numbers):
     began = time.monotonic()
-    differences = done = 0
+    differences = done = secrets = 0
     with tempfile.TemporaryDirectory(prefix="tacd-pairs-") as folder:
         for done, number in enumerate(numbers, start=1):
             old, new = pair(Choices(f"{seed}:{number}"))
-            output, status = run(path.resolve(), pathlib.Path(folder), old, new)
+            put(pathlib.Path(folder), old, new)
+            wanted = altered_lines(policy_of(old), policy_of(new))
+            secrets += len(wanted)
+            output, status = run(path.resolve(), pathlib.Path(folder), "--edits")
             fault = fault_of(old, new, output, status)
+            if fault is None:
+                output, status = run(path.resolve(), pathlib.Path(folder), "--exit-code")
+                fault = fault_of_secrets(wanted, output, status)
             if fault is not None:
                 differences += 1
                 tell(seed, number, old, new, output, fault)
@@ -37,16 +51,30 @@ def compare(path, seed, numbers):
                 print("no more are looked for")
                 break
     seconds = time.monotonic() - began
-    print(f"{done} pairs of seed {seed}, {differences} differences, {seconds:.0f} seconds")
-    return 1 if differences else 0
+    print(f"{done} pairs of seed {seed}, {secrets} secrets, {differences} differences,", end=" ")
+    print(f"{seconds:.0f} seconds")
+    return 1 if differences or secrets == 0 else 0
 
 
-def run(path, folder, old, new):
+def put(folder, old, new):
     for name, text in (("old", old), ("new", new)):
         (folder / name).write_bytes(text)
-    words = [path, "diff", "--edits", folder / "old", folder / "new"]
+
+
+def run(path, folder, option):
+    words = [path, "diff", option, folder / "old", folder / "new"]
     ran = subprocess.run(words, capture_output=True, timeout=60)
     return ran.stdout, ran.returncode
+
+
+def fault_of_secrets(wanted, output, status):
+    """What is wrong with what is told of secrets, or None."""
+    lines = lines_of(output.decode("latin-1"))
+    told = [line for line in lines if OF_SECRETS.fullmatch(line)]
+    if told != wanted or wanted and lines[-len(wanted) :] != wanted:
+        return f"of secrets is wanted: {wanted}"
+    right = 0 if lines == ["same"] else SOMETHING_CHANGES
+    return None if status == right else f"status {status}"
 
 
 def fault_of(old, new, output, status):

@@ -34,6 +34,7 @@ user bob now denies: show run
 |user ann now permits: ping |
 user ann now denies: show run
 |user gone now denies: ping |
+user idle login set
 status 5
 
 $ tacd diff --exit-code new old
@@ -44,6 +45,7 @@ user ann now permits: show run
 |user zed now permits: ping |
 |user gone now permits: ping |
 |user come now denies: show |
+user idle login cleared
 status 5
 
 $ tacd diff --exit-code old old

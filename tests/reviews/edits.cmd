@@ -77,9 +77,11 @@ login-hash bob $6$rounds=1000$a.b/c$DTK7hHK5OlG9lAtBisZZCIY54BYeEOnsDdkgHm/Wcq/9
 clear enable bob
 commit
 
-# Secrets decide nothing.
+# Secrets decide nothing, and are told last.
 $ tacd diff policy next
-same
+user bob login changed
+user bob enable changed
+user eve login changed
 
 # Of lines about services those stay that both policies have first. The rest is cleared from the end.
 file policy

@@ -145,11 +145,11 @@ Lines of the console, where a SUBJECT is 'user NAME' or 'group NAME':
 
 An edit, a 'commit' and a 'reload' are answered by 'ok', and then by what they change for users: the
 shortest line that is now permitted, the shortest that is now denied, and what is given otherwise
-for services, as 'tacd diff --help' has it. Or they are answered by 'refused' and why, and have
-changed nothing. A file that is refused is told as by 'tacd check', and one that can't be read by
-'unread' and why. A file without a user is 'fault NoUser' where the policy has one. Where fewer than
-half of the users are there after a 'reload', its last line says how many are gone, and standard
-error does too.
+for services, as 'tacd diff --help' has it; a 'reload' also by whose secrets it sets, changes or
+clears. Or they are answered by 'refused' and why, and have changed nothing. A file that is refused
+is told as by 'tacd check', and one that can't be read by 'unread' and why. A file without a user is
+'fault NoUser' where the policy has one. Where fewer than half of the users are there after a
+'reload', its last line says how many are gone, and standard error does too.
 A 'reload devices' is answered by 'devices ok' and how many; a file that is refused as by 'tacd
 devices', and one that can't be read by 'devices unread' and why. Then those before are served on.
 Without --devices it is 'no devices'.
@@ -420,10 +420,11 @@ pub(crate) const DIFF_PAGE: Page = Page {
 For each user for whom anything changes it prints the shortest command line that the new policy
 permits and the old one denies, and the shortest that the new one denies and the old one permits; of
 lines of one length, the first by ASCII. Then it prints what users are given otherwise for services,
-a shell's level among it. So nothing is printed for a user exactly if the two policies permit and
-deny alike every line that he could ever give, and give him the same. It is what the console of
-'tacd serve' answers to edits that make the one policy into the other. With --edits it prints such
-edits, which load NEW into a server that has OLD.",
+a shell's level among it, and then whose secrets were set, changed or cleared, without the secrets.
+So nothing is printed for a user exactly if the two policies permit and deny alike every line that he
+could ever give, give him the same, and have the same secrets of him. It is what the console of
+'tacd serve' answers where NEW takes the place of OLD by a 'reload'. With --edits it prints edits
+that make NEW of OLD, which load it into a server that has OLD.",
     after_help: "Examples:
   tacd diff campus.policy campus-next.policy
   tacd diff --edits saved.policy campus-next.policy | tacd console /run/tacd/console
@@ -440,7 +441,12 @@ Then what is given otherwise for services, in the same order, where S is 'shell'
   user NAME service S now gives: ARGUMENT
   user NAME service S no longer gives: ARGUMENT
   user NAME service S gives the same in another order
-  same                 where nothing changes for anyone
+Then what became of the secret that a user logs in or enables with, in the same order. Who isn't in a
+policy has none there. Texts are compared as texts and hashes as hashes, and one is never the other:
+  user NAME login set  there was none; so it is with 'enable' in place of 'login'
+  user NAME login changed
+  user NAME login cleared
+  same                 where nothing changes for anyone, no secret either
 
 What is printed with --edits, for each 64 edits; nothing where there are none:
   begin

@@ -3,7 +3,7 @@
 //! Each fault is said on standard error. The status tells it too, so it doesn't matter whether that
 //! could be written.
 
-use crate::asking_place::{Place, connect, place_of};
+use crate::server_address::{ServerAddress, address_of, connect};
 use basics::{Bytes, Sequence, send, split_once};
 use clap::ArgMatches;
 use std::alloc::{AllocError, Global};
@@ -51,10 +51,13 @@ enum Unanswered {
 }
 
 // Which server is asked.
-fn place<'a, R: Eprint>(rt: &R, matches: &ArgMatches<'a>) -> Result<Place<'a>, Status> {
+fn server_address<'a, R: Eprint>(
+    rt: &R,
+    matches: &ArgMatches<'a>,
+) -> Result<ServerAddress<'a>, Status> {
     let word = word_of(matches, TO);
-    match place_of(word) {
-        Some(place) => Ok(place),
+    match address_of(word) {
+        Some(address) => Ok(address),
         None => {
             let _ = eprintln!(rt;
                 "error: invalid value '{word}' for '--to <HOST[:PORT]>': it is no host and port
@@ -304,7 +307,7 @@ where
 fn exchange<R, H>(
     rt: &R,
     host: &H,
-    place: Place<'_>,
+    address: ServerAddress<'_>,
     door: Door,
     session: u32,
     asked: &Asked,
@@ -314,7 +317,7 @@ where
     R: AllocGlobal,
     H: Clock + Drop + Net<Listener = TcpListener, Stream = TcpStream>,
 {
-    let stream = match connect(host, place, until) {
+    let stream = match connect(host, address, until) {
         Ok(stream) => stream,
         Err(error) => return Err(Unanswered::Uncalled(error)),
     };
@@ -413,7 +416,7 @@ where
     R: Files + Input + Print + Eprint + AllocGlobal,
     H: Clock + ConsoleHost + Drop + Net<Listener = TcpListener, Stream = TcpStream>,
 {
-    let place = place(rt, matches)?;
+    let address = server_address(rt, matches)?;
     let door = door(rt, matches)?;
     let password = password(rt, host, matches)?;
     let asked = asked(rt, matches, Bytes::from(password))?;
@@ -421,7 +424,7 @@ where
     let seconds = matches.get_one::<u32>(TIMEOUT).unwrap_or(1);
     let begun = now(rt, host)?;
     let until = begun.saturating_add(Duration::from_secs(u64::from(seconds)));
-    let reply = match exchange(rt, host, place, door, session, &asked, until) {
+    let reply = match exchange(rt, host, address, door, session, &asked, until) {
         Ok(reply) => reply,
         Err(unanswered) => return Err(tell_why(rt, word_of(matches, TO), &unanswered)),
     };

@@ -4,7 +4,6 @@
 #![tactic(auto)]
 
 mod asking;
-mod asking_place;
 mod console_client;
 mod devices_lint;
 mod importing;
@@ -12,6 +11,7 @@ mod listing;
 mod policies;
 mod replaying;
 mod reviewing;
+mod server_address;
 
 pub use asking::ask;
 pub use console_client::type_at_console;

@@ -14,7 +14,7 @@ const GLANCE: u64 = 10;
 const MOST_GLANCES: u32 = 100;
 
 #[derive(Drop)]
-struct Board {
+struct Pending {
     waiting: Waiting,
     is_writing: bool,
 }
@@ -23,7 +23,7 @@ struct Board {
 /// for moments, never while something is written.
 #[derive(Drop)]
 pub struct Complaints {
-    board: Mutex<Board>,
+    pending: Mutex<Pending>,
     // told when there is something to be written
     changed: Condvar,
 }
@@ -33,7 +33,7 @@ impl Complaints {
     pub fn new(alloc: Global) -> Result<Complaints, AllocError> {
         let waiting = Waiting::new(alloc)?;
         Ok(Complaints {
-            board: Mutex::new(Board {
+            pending: Mutex::new(Pending {
                 waiting,
                 is_writing: false,
             }),
@@ -43,25 +43,25 @@ impl Complaints {
 
     /// Leaves a complaint; none where there was no memory for its text ([`Waiting::add`]).
     pub fn add<R: Wait>(&self, rt: &R, line: Option<Bytes>) {
-        self.board.lock(rt).waiting.add(line);
+        self.pending.lock(rt).waiting.add(line);
         self.changed.notify_one();
     }
 
     /// Waits for what is written next. What was taken before was written.
     pub(crate) fn next<R: Wait>(&self, rt: &R) -> Option<Told> {
-        let mut board = self.board.lock(rt);
-        board.is_writing = false;
-        let mut board = self
+        let mut pending = self.pending.lock(rt);
+        pending.is_writing = false;
+        let mut pending = self
             .changed
-            .wait_while(rt, board, |board| board.waiting.is_empty());
-        board.is_writing = true;
-        board.waiting.take()
+            .wait_while(rt, pending, |pending| pending.waiting.is_empty());
+        pending.is_writing = true;
+        pending.waiting.take()
     }
 
     // Whether all was written.
     fn is_done<R: Wait>(&self, rt: &R) -> bool {
-        let board = self.board.lock(rt);
-        board.waiting.is_empty() && !board.is_writing
+        let pending = self.pending.lock(rt);
+        pending.waiting.is_empty() && !pending.is_writing
     }
 
     /// Waits until all was written, for a second at most.

@@ -40,7 +40,7 @@ finished done all = finished_by all.at_work done all
 
 -- where the first of these stands that was worked out for this worker
 abbrev pub first_for : ℕ → List Done → Option ℕ
-first_for worker all = position (λ done. done.place.worker == worker) all
+first_for worker all = position (λ done. done.ticket.worker == worker) all
 
 -- the first that was worked out for this worker isn't on its way any more, and no other was
 -- touched; or there is none

@@ -44,7 +44,7 @@ impl Model for Backlog {
 fn first_for(all: &VecDeque<Done>, worker: usize) -> Option<usize>
     ensures { result ≡ on_their_way.first_for worker all.now.items }
 {
-    all.iter().position(|done| done.place.worker == worker)
+    all.iter().position(|done| done.ticket.worker == worker)
 }
 
 impl Backlog {

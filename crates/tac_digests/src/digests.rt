@@ -6,7 +6,7 @@ use std::alloc::{AllocError, Global};
 use std::sync::{Condvar, Mutex, Wait};
 
 #[derive(Drop)]
-struct Board {
+struct Passwords {
     backlog: Backlog,
     is_over: bool,
 }
@@ -15,7 +15,7 @@ struct Board {
 /// these wait here for moments alone, but for those that work out: they wait for the next password.
 #[derive(Drop)]
 pub struct Digests {
-    board: Mutex<Board>,
+    passwords: Mutex<Passwords>,
     // told when there is one more to be worked out, and at the end
     changed: Condvar,
 }
@@ -25,7 +25,7 @@ impl Digests {
     pub fn new(alloc: Global) -> Result<Digests, AllocError> {
         let backlog = Backlog::new(alloc)?;
         Ok(Digests {
-            board: Mutex::new(Board {
+            passwords: Mutex::new(Passwords {
                 backlog,
                 is_over: false,
             }),
@@ -35,36 +35,36 @@ impl Digests {
 
     /// Has a password worked out. The answer is false where as many are on their way as may be.
     pub fn add<R: Wait>(&self, rt: &R, job: Job) -> bool {
-        let is_added = self.board.lock(rt).backlog.add(job);
+        let is_added = self.passwords.lock(rt).backlog.add(job);
         self.changed.notify_one();
         is_added
     }
 
     /// Waits for the next one to be worked out. There is none after the end.
     pub fn next<R: Wait>(&self, rt: &R) -> Option<Job> {
-        let board = self.board.lock(rt);
-        let mut board = self.changed.wait_while(rt, board, |board| {
-            !board.is_over && board.backlog.is_idle()
+        let passwords = self.passwords.lock(rt);
+        let mut passwords = self.changed.wait_while(rt, passwords, |passwords| {
+            !passwords.is_over && passwords.backlog.is_idle()
         });
-        if board.is_over {
+        if passwords.is_over {
             return None;
         }
-        board.backlog.take()
+        passwords.backlog.take()
     }
 
     /// One was worked out.
     pub fn finish<R: Wait>(&self, rt: &R, done: Done) {
-        self.board.lock(rt).backlog.finish(done);
+        self.passwords.lock(rt).backlog.finish(done);
     }
 
     /// One that was worked out for this worker.
     pub fn collect<R: Wait>(&self, rt: &R, worker: usize) -> Option<Done> {
-        self.board.lock(rt).backlog.collect(worker)
+        self.passwords.lock(rt).backlog.collect(worker)
     }
 
     /// Nothing is worked out any more, and nobody waits here.
     pub fn end<R: Wait>(&self, rt: &R) {
-        self.board.lock(rt).is_over = true;
+        self.passwords.lock(rt).is_over = true;
         self.changed.notify_all();
     }
 }

@@ -7,7 +7,7 @@ use tac_worker::HashWork;
 
 /// Which connection of which worker a password is worked out for.
 #[derive(Clone, Copy, Debug, PartialEq, Eq)]
-pub struct Place {
+pub struct HashTicket {
     /// The number of the worker.
     pub worker: usize,
     /// The key of the connection there, and its number, since keys are used again.
@@ -18,25 +18,25 @@ pub struct Place {
 /// A password that is to be worked out.
 #[derive(Drop)]
 pub struct Job {
-    pub place: Place,
+    pub ticket: HashTicket,
     pub work: HashWork,
 }
 
 /// A password that was worked out.
 #[derive(Drop)]
 pub struct Done {
-    pub place: Place,
+    pub ticket: HashTicket,
     pub password: Typed,
 }
 
 impl Job {
     /// Works it out. Linear in the rounds.
     pub fn done(self) -> Done
-        ensures { result ≡ record { place = self.place; password = self.work.password } }
+        ensures { result ≡ record { ticket = self.ticket; password = self.work.password } }
     {
-        let Job { place, work } = self;
+        let Job { ticket, work } = self;
         Done {
-            place,
+            ticket,
             password: work.done(),
         }
     }

@@ -7,4 +7,4 @@ mod job;
 
 pub use backlog::{Backlog, MOST_DIGESTS};
 pub use digests::Digests;
-pub use job::{Done, Job, Place};
+pub use job::{Done, HashTicket, Job};

@@ -59,7 +59,7 @@ module _ (opening : Opening) where
   call_makes was now call (refused fault) came = makes_caught was now came.1
   call_makes was now call (replied line) came = absurd came
   call_makes was now call (barred asked) came = absurd came
-  call_makes was now call (loaded between asked entry) came = absurd came
+  call_makes was now call (loaded old asked entry) came = absurd came
   call_makes was now call (unloaded asked fault) came = absurd came
 
   rotation_makes : (was now : Seated) (outcome : Outcome) → IsRotation opening was outcome now → Makes was now (entries_of (outcome ∷ [])) (rotations_of (outcome ∷ []))
@@ -69,7 +69,7 @@ module _ (opening : Opening) where
   rotation_makes was now (refused fault) came = makes_caught was now came.1
   rotation_makes was now (replied line) came = absurd came
   rotation_makes was now (barred asked) came = absurd came
-  rotation_makes was now (loaded between asked entry) came = absurd came
+  rotation_makes was now (loaded old asked entry) came = absurd came
   rotation_makes was now (unloaded asked fault) came = absurd came
 
   -- another policy, after the question for the present one
@@ -80,8 +80,8 @@ module _ (opening : Opening) where
   replacing_makes was now new (refused fault) came = call_makes was now policy_question (refused fault) came
   replacing_makes was now new (replied line) came = absurd came
   replacing_makes was now new (barred asked) came = call_makes was now policy_question (made asked) came.1.0
-  replacing_makes was now new (loaded between asked entry) came =
-      makes_then was came.1 now (made asked ∷ []) (made entry ∷ []) (call_makes was came.1 policy_question (made asked) came.2.0) (call_makes came.1 now (calls.Load new) (made entry) came.5)
+  replacing_makes was now new (loaded old asked entry) came =
+      makes_then was came.0 now (made asked ∷ []) (made entry ∷ []) (call_makes was came.0 policy_question (made asked) came.1.0) (call_makes came.0 now (calls.Load new) (made entry) came.3)
   replacing_makes was now new (unloaded asked fault) came =
       makes_then was came.1 now (made asked ∷ []) (refused fault ∷ []) (call_makes was came.1 policy_question (made asked) came.2.0) (call_makes came.1 now (calls.Load new) (refused fault) came.4)
 

@@ -39,8 +39,8 @@ module _ (opening : Opening) (was : Seated) where
         bars shuts = (old, ((asked, refl, is), some), shuts)
 
         pub called : (receipt : Receipt) (now : Seated) → shuts_out (turnover old new) ≡ false → IsMade opening mid (calls.Load new) receipt now
-            → Replaces opening was new (loaded (turnover old new) (made_of policy_question asked) (made_of (calls.Load new) receipt)) now
-        called receipt now stays so = (old, mid, ((asked, refl, is), some), refl, stays, (receipt, refl, so))
+            → Replaces opening was new (loaded old (made_of policy_question asked) (made_of (calls.Load new) receipt)) now
+        called receipt now stays so = (mid, ((asked, refl, is), some), stays, (receipt, refl, so))
 
         pub uncalled : (fault : HallFault) (now : Seated) → shuts_out (turnover old new) ≡ false → IsRefused opening now (calls.Load new) fault → CatchesUp mid now
             → Replaces opening was new (unloaded (made_of policy_question asked) fault) now

@@ -11,6 +11,7 @@ use Rattle.pol_edit.specs.declared.fault.EditFault.TheVariants as edit_refusals
 use Rattle.pol_text.specs.Text.{policy_of}
 use Rattle.pol_text.specs.declared.fault.PolicyFault.{PolicyFault}
 use Rattle.pol_text.specs.declared.subject.Subject.{Subject}
+use Rattle.pol_secrets.specs.Telling.{secrets_text}
 use Rattle.tac_console.specs.Answers as console
 use Rattle.tac_console.specs.Answers.{edit_answer, batch_answer, load_answer, query_answer}
 use Rattle.tac_console.specs.Answers.{notice_text}
@@ -49,8 +50,8 @@ use Rattle.tac_hall_console.specs.Users.{turnover, shuts_out, most_are_gone, gon
 
 -- what came of a line: a notice without a call, or its call was made, or the present segment was
 -- ended, or the one or the other was refused; or this line was told, and the history has nothing of
--- it. Or the policy was asked for, and another one was barred, as nobody could log in, or loaded,
--- which changed the users so, or the call for that was refused
+-- it. Or the policy was asked for, and another one was barred, as nobody could log in, or loaded in
+-- the place of the one that was answered, or the call for that was refused
 pub data Outcome : Type 0 where
   noticed : Notice → Outcome
   made : Made → Outcome
@@ -58,7 +59,7 @@ pub data Outcome : Type 0 where
   refused : HallFault → Outcome
   replied : List ℕ → Outcome
   barred : Made → Outcome
-  loaded : Turnover → Made → Made → Outcome
+  loaded : List Subject → Made → Made → Outcome
   unloaded : Made → HallFault → Outcome
 
 -- what a view has of it
@@ -69,7 +70,7 @@ entries_by (rotated rotation) = []
 entries_by (refused fault) = []
 entries_by (replied line) = []
 entries_by (barred asked) = asked ∷ []
-entries_by (loaded between asked entry) = asked ∷ entry ∷ []
+entries_by (loaded old asked entry) = asked ∷ entry ∷ []
 entries_by (unloaded asked fault) = asked ∷ []
 
 abbrev pub entries_of : List Outcome → List Made
@@ -86,7 +87,7 @@ CallsFor opening was call (refused fault) now =
     IsRefused opening now call fault × CatchesUp was now
 CallsFor opening was call (replied line) now = ⊥
 CallsFor opening was call (barred asked) now = ⊥
-CallsFor opening was call (loaded between asked entry) now = ⊥
+CallsFor opening was call (loaded old asked entry) now = ⊥
 CallsFor opening was call (unloaded asked fault) now = ⊥
 
 -- the edits of a batch are one call, and only a notice makes none
@@ -106,7 +107,7 @@ IsRotation opening was (rotated rotation) now = IsRotated opening was rotation n
 IsRotation opening was (refused fault) now = IsUnrotated opening now fault × CatchesUp was now
 IsRotation opening was (replied line) now = ⊥
 IsRotation opening was (barred asked) now = ⊥
-IsRotation opening was (loaded between asked entry) now = ⊥
+IsRotation opening was (loaded old asked entry) now = ⊥
 IsRotation opening was (unloaded asked fault) now = ⊥
 
 -- ---- another policy
@@ -163,9 +164,8 @@ Replaces opening was new (replied line) now = ⊥
 Replaces opening was new (barred asked) now =
     (old : List Subject) × Learns opening was asked old now
     × (shuts_out (turnover old new) ≡ true)
-Replaces opening was new (loaded between asked entry) now =
-    (old : List Subject) × (mid : Seated) × Learns opening was asked old mid
-    × (between ≡ turnover old new) × (shuts_out (turnover old new) ≡ false)
+Replaces opening was new (loaded old asked entry) now =
+    (mid : Seated) × Learns opening was asked old mid × (shuts_out (turnover old new) ≡ false)
     × CallsFor opening mid (calls.Load new) (made entry) now
 Replaces opening was new (unloaded asked fault) now =
     (old : List Subject) × (mid : Seated) × Learns opening was asked old mid
@@ -233,14 +233,23 @@ rotated_line rotation =
 abbrev pub no_user_line : List ℕ
 no_user_line = fault_line (codes "NoUser")
 
--- what comes after the answer to a policy that was loaded: how many users are gone, where most are
-abbrev pub gone_text : Turnover → CallAnswer → List ℕ
-gone_text between (answers.Edit (Ok changes)) =
-    if most_are_gone between then gone_line between else []
-gone_text between answer = []
+-- how many users are gone, where most of them are
+abbrev pub gone_text : Turnover → List ℕ
+gone_text between = if most_are_gone between then gone_line between else []
 
-abbrev pub load_text : Turnover → Call → CallAnswer → List ℕ
-load_text between call answer = answer_text call answer ++ gone_text between answer
+-- what comes after the answer where the new policy was loaded: which secrets aren't what they were
+-- by the policy that was asked for just before, and how many users are gone
+abbrev pub users_text : List Subject → List Subject → CallAnswer → List ℕ
+users_text old new (answers.Edit (Ok changes)) =
+    secrets_text old new ++ gone_text (turnover old new)
+users_text old new answer = []
+
+abbrev pub loaded_text : List Subject → Call → CallAnswer → List ℕ
+loaded_text old (calls.Load new) answer = users_text old new answer
+loaded_text old call answer = []
+
+abbrev pub load_text : List Subject → Call → CallAnswer → List ℕ
+load_text old call answer = answer_text call answer ++ loaded_text old call answer
 
 -- how it is told what came of a line
 abbrev pub told : Outcome → List ℕ
@@ -250,7 +259,7 @@ told (rotated rotation) = rotated_line rotation
 told (refused fault) = refusal_line fault
 told (replied line) = line
 told (barred asked) = no_user_line
-told (loaded between asked entry) = load_text between entry.call entry.answer
+told (loaded old asked entry) = load_text old entry.call entry.answer
 told (unloaded asked fault) = refusal_line fault
 
 -- ---- lines, one after another
@@ -274,7 +283,7 @@ rotation_of (rotated rotation) = Some rotation
 rotation_of (refused fault) = None
 rotation_of (replied line) = None
 rotation_of (barred asked) = None
-rotation_of (loaded between asked entry) = None
+rotation_of (loaded old asked entry) = None
 rotation_of (unloaded asked fault) = None
 
 abbrev pub rotations_of : List Outcome → List Rotated
@@ -364,7 +373,7 @@ IsRefusal (rotated rotation) = ⊥
 IsRefusal (refused fault) = Unit {0}
 IsRefusal (replied line) = ⊥
 IsRefusal (barred asked) = ⊥
-IsRefusal (loaded between asked entry) = ⊥
+IsRefusal (loaded old asked entry) = ⊥
 IsRefusal (unloaded asked fault) = ⊥
 
 -- after lines that went so the Stop was made, and it ends so: what came of it is told, unless the

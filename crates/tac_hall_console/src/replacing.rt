@@ -2,6 +2,7 @@
 
 ghost use Rattle.std.specs.Prelude.{◌≡◌, ◌++◌, IfOk, OnOk, OnErr};
 ghost use Rattle.std.specs.Option.{option_copied};
+ghost use Rattle.pol_secrets.specs.Telling.{secrets_text};
 ghost use Rattle.tac_hall.specs.Calls.{IsOfKind};
 ghost use Rattle.tac_hall_console.specs.Operated as operated;
 ghost use Rattle.tac_hall_console.specs.Operated.{Replaces};
@@ -11,6 +12,7 @@ ghost use Rattle.tac_hall_console.specs.Users.{gone_line};
 use crate::answering::{write_answer, write_refusal};
 use crate::reloading::Source;
 use crate::users::Turnover;
+use pol_secrets::{secret_changes, write_secret_changes};
 use pol_text::Policy;
 use std::alloc::{AllocError, Global};
 use std::io::Write;
@@ -46,23 +48,52 @@ fn gone_text(alloc: Global, between: Turnover) -> Result<Vec<u8>, AllocError>
     }
 }
 
-// Adds how many users are gone where a policy was loaded, and has the source say it too, if most of
-// them are.
+// Adds how many users are gone, and has the source say it too, if most of them are.
 fn tell_of_gone<S: Source>(
     alloc: Global,
     source: &S,
     between: Turnover,
+    out: &mut Vec<u8>,
+) -> Result<(), AllocError>
+    ensures { OnOk result (out.new.items ≡ out.old.items ++ operated.gone_text between) }
+{
+    if !between.most_are_gone() {
+        return Ok(());
+    }
+    let line = gone_text(alloc, between)?;
+    source.warn(line.as_slice());
+    out.extend_from_slice(line.as_slice())
+}
+
+// Adds which secrets aren't what they were, without a secret.
+fn tell_of_secrets(
+    alloc: Global,
+    old: &Policy,
+    new: &Policy,
+    out: &mut Vec<u8>,
+) -> Result<(), AllocError>
+    ensures { OnOk result (out.new.items ≡ out.old.items ++ secrets_text old.now new.now) }
+{
+    let changes = secret_changes(alloc, old, new)?;
+    write_secret_changes(out, changes.as_slice())
+}
+
+// Adds what is told of users where the new policy was loaded.
+fn tell_of_users<S: Source>(
+    alloc: Global,
+    source: &S,
+    old: &Policy,
+    new: &Policy,
     answer: &CallAnswer,
     out: &mut Vec<u8>,
 ) -> Result<(), AllocError>
     ensures { OnOk result
-        (out.new.items ≡ out.old.items ++ operated.gone_text between answer.now) }
+        (out.new.items ≡ out.old.items ++ operated.users_text old.now new.now answer.now) }
 {
     match answer {
-        CallAnswer::Edit(Ok(_)) if between.most_are_gone() => {
-            let line = gone_text(alloc, between)?;
-            source.warn(line.as_slice());
-            out.extend_from_slice(line.as_slice())
+        CallAnswer::Edit(Ok(_)) => {
+            tell_of_secrets(alloc, old, new, out)?;
+            tell_of_gone(alloc, source, Turnover::between(old, new), out)
         }
         _ => Ok(()),
     }
@@ -72,22 +103,25 @@ fn tell_of_gone<S: Source>(
 fn write_load<S: Source>(
     alloc: Global,
     source: &S,
-    between: Turnover,
+    old: &Policy,
     call: &Call,
     answer: &CallAnswer,
     out: &mut Vec<u8>,
 ) -> Result<(), AllocError>
     requires { IsOfKind call.now answer.now }
     ensures { OnOk result
-        (out.new.items ≡ out.old.items ++ operated.load_text between call.now answer.now) }
+        (out.new.items ≡ out.old.items ++ operated.load_text old.now call.now answer.now) }
 {
     write_answer(alloc, out, call, answer)?;
-    tell_of_gone(alloc, source, between, answer, out)
+    match call {
+        Call::Load(new) => tell_of_users(alloc, source, old, new, answer, out),
+        _ => Ok(()),
+    }
 }
 
 /// Puts a policy in the place of the present one, which the desk is asked for, and adds what came
-/// of it. A policy without a user isn't called for where the present one has users. Takes a hash
-/// look-up for each subject, but for what the desk takes.
+/// of it. A policy without a user isn't called for where the present one has users. Takes a few
+/// hash look-ups for each subject, but for what the desk takes.
 pub(crate) fn replace<H: Wait, J: Run, D: Desk, S: Source>(
     rt: &H,
     alloc: Global,
@@ -116,7 +150,7 @@ pub(crate) fn replace<H: Wait, J: Run, D: Desk, S: Source>(
     }
     let load = Call::Load(policy);
     match desk.call(rt, seat, &load) {
-        Ok(receipt) => write_load(alloc, source, between, &load, &receipt.answer, out),
+        Ok(receipt) => write_load(alloc, source, present, &load, &receipt.answer, out),
         Err(fault) => write_refusal(out, fault),
     }
 }

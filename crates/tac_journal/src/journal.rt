@@ -4,7 +4,7 @@ ghost use Rattle.tac_journal.specs.Log.{somewhere};
 
 use crate::disk::Disk;
 use crate::log::Log;
-use crate::open_file::{OpenFile, Place};
+use crate::open_file::{LogPath, OpenFile};
 use crate::opening::{LogFiles, STANDARD_OUTPUT, UNSYNCED, is_pipe, no_regular_file};
 use crate::pipe::{Pipe, PipeLog};
 use brief_lock::take;
@@ -22,7 +22,7 @@ pub const OUTPUT_NAME: &str = "standard output";
 // A file that takes lines.
 #[derive(Drop)]
 struct FileLog<'a> {
-    place: Place<'a>,
+    log_path: LogPath<'a>,
     open_file: Mutex<OpenFile>,
 }
 
@@ -78,14 +78,17 @@ impl<'a> Journal<'a> {
             let pipe = pipe_at(host, path, file)?;
             return Ok(Journal::of_pipe(name, pipe));
         }
-        let place = Place {
+        let log_path = LogPath {
             path,
             name,
             disk: if syncs { Some(Disk::new()) } else { None },
             is_failing: AtomicBool::new(false),
         };
         let open_file = Mutex::new(OpenFile::new(host, file)?);
-        let log = FileLog { place, open_file };
+        let log = FileLog {
+            log_path,
+            open_file,
+        };
         Ok(Journal {
             kind: Kind::File(log),
         })
@@ -131,7 +134,7 @@ impl<'a> Journal<'a> {
     /// Whether it takes lines, as far as the last append tells. It waits for nobody who appends.
     pub fn takes_lines(&self) -> bool {
         match &self.kind {
-            Kind::File(log) => !log.place.is_failing.load(Ordering::SeqCst),
+            Kind::File(log) => !log.log_path.is_failing.load(Ordering::SeqCst),
             Kind::Pipe(log) => log.takes_lines(),
         }
     }
@@ -144,10 +147,10 @@ impl FileLog<'_> {
         H: Wait + Clock + Eprint + LogFiles,
     {
         let number = self
-            .place
+            .log_path
             .append(host, &mut take(host, &self.open_file), lines)?;
-        match &self.place.disk {
-            Some(disk) => self.place.send(host, disk, &self.open_file, number),
+        match &self.log_path.disk {
+            Some(disk) => self.log_path.send(host, disk, &self.open_file, number),
             None => Ok(()),
         }
     }

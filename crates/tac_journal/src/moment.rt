@@ -29,7 +29,7 @@ pub(crate) fn now<C: Clock>(alloc: Global, clock: &C) -> Result<Bytes, Refused> 
 
 // A moment whose text was made.
 #[derive(Drop)]
-struct Told {
+struct Stamp {
     millisecond: i64,
     text: Bytes,
 }
@@ -38,7 +38,7 @@ struct Told {
 /// millisecond, and the text takes longer than all else of a line's head.
 #[derive(Drop)]
 pub struct Moments {
-    last: RefCell<Option<Told>>,
+    last: RefCell<Option<Stamp>>,
 }
 
 impl Moments {
@@ -55,7 +55,7 @@ impl Moments {
             return Ok(None);
         };
         match &*last {
-            Some(told) if told.millisecond == millisecond => Ok(Some(told.text.copy(alloc)?)),
+            Some(stamp) if stamp.millisecond == millisecond => Ok(Some(stamp.text.copy(alloc)?)),
             _ => Ok(None),
         }
     }
@@ -63,7 +63,7 @@ impl Moments {
     // Keeps the text of this millisecond.
     fn keep(&self, millisecond: i64, text: Bytes) {
         if let Ok(mut last) = self.last.try_borrow_mut() {
-            *last = Some(Told { millisecond, text });
+            *last = Some(Stamp { millisecond, text });
         }
     }
 

@@ -30,7 +30,7 @@ pub(crate) struct OpenFile {
 
 /// Where a file is, and what of it is on the disk, where its lines count only then.
 #[derive(Drop)]
-pub(crate) struct Place<'a> {
+pub(crate) struct LogPath<'a> {
     pub(crate) path: &'a str,
     /// What it is called where something is said of it.
     pub(crate) name: &'a str,
@@ -62,7 +62,7 @@ impl OpenFile {
     }
 }
 
-impl Place<'_> {
+impl LogPath<'_> {
     // Sends what a file took to the disk before another takes its place.
     fn leave<H: Wait + LogFiles>(&self, host: &H, open_file: &OpenFile) -> io::Result<()> {
         let Some(disk) = &self.disk else {
@@ -119,7 +119,7 @@ impl Place<'_> {
     }
 
     /// Appends lines, and answers the number of the append. The lines count at once, or where the
-    /// file is sent to the disk once that is [done](Place::send).
+    /// file is sent to the disk once that is [done](LogPath::send).
     pub(crate) fn append<H>(
         &self,
         host: &H,

@@ -1,12 +1,13 @@
 -- What is handed over of a policy, and an answer that is told once a store holds that
 -- (docs/PROVED.md, "Edits that outlive a server").
-use Rattle.std.specs.Prelude.{◌≡◌, ◌⊎◌, ℕ, List, [], ◌∷◌, ◌++◌, take, true, false}
+use Rattle.std.specs.Prelude.{◌≡◌, ◌⊎◌, ℕ, List, [], ◌∷◌, ◌++◌, take, Bool, true, false}
 use Rattle.std.specs.Prelude.{Option, Some, None, Result, Ok, Err}
 use Rattle.std.specs.Io.KnownBytes.{Appends, Keeps}
 use Rattle.std.specs.declared.io.Error.{Error}
 use Rattle.pol_text.specs.Text.{text_of}
 use Rattle.pol_text.specs.declared.subject.Subject.{Subject}
-use Rattle.tac_keep.specs.declared.desk.KeptDesk.{KeptDesk}
+use Rattle.tac_watch.specs.Watching.{Seen, stored, edited, loaded, questioned}
+use Rattle.tac_keep.specs.declared.keeping_watch.KeepingWatch.{KeepingWatch}
 use Rattle.tac_keep.specs.declared.tray.Wanted.{Wanted}
 use Rattle.tac_keep.specs.declared.tray.Wanted.TheVariants as wanted
 use Rattle.tac_keep.specs.declared.keeper.Keeper.{Keeper}
@@ -15,44 +16,65 @@ use Rattle.tac_keep.specs.declared.keeper.Unkept.TheVariants as unkept
 use Rattle.tac_keep.specs.declared.keeper.Untold.{Untold}
 use Rattle.tac_keep.specs.declared.keeper.Untold.TheVariants as untold
 
--- ---- a desk
+-- ---- who watches a desk
 
 -- these were told after all that was told before; of a tray, of which nothing is known, it may be so
 abbrev pub Tells : Option (List Wanted) → Option (List Wanted) → List Wanted → Type 0
 Tells None after new = Unit {0}
 Tells (Some before) after new = after ≡ Some (before ++ new)
 
-module _ {P T D : Type 0} (told : T → Option (List Wanted)) where
+module _ {P T : Type 0} (told : T → Option (List Wanted)) where
   -- nothing was told
-  abbrev pub Rests : KeptDesk P T D → KeptDesk P T D → Type 0
+  abbrev pub Rests : KeepingWatch P T → KeepingWatch P T → Type 0
   Rests was now =
       (now.is_unprinted ≡ was.is_unprinted) × Tells (told was.tray) (told now.tray) []
 
   -- it was told once that nothing is to be kept
-  abbrev pub Forgets : KeptDesk P T D → KeptDesk P T D → Type 0
+  abbrev pub Forgets : KeepingWatch P T → KeepingWatch P T → Type 0
   Forgets was now =
       (now.is_unprinted ≡ false)
       × Tells (told was.tray) (told now.tray) (wanted.Nothing ∷ [])
 
   -- what this policy is printed as was told once
-  abbrev pub IsTold : KeptDesk P T D → KeptDesk P T D → List Subject → Type 0
+  abbrev pub IsTold : KeepingWatch P T → KeepingWatch P T → List Subject → Type 0
   IsTold was now policy =
       (now.is_unprinted ≡ false)
       × Tells (told was.tray) (told now.tray) (wanted.Text (text_of policy) ∷ [])
 
   -- it was told once that there was no memory for that
-  abbrev pub IsUntold : KeptDesk P T D → KeptDesk P T D → Type 0
+  abbrev pub IsUntold : KeepingWatch P T → KeepingWatch P T → Type 0
   IsUntold was now =
       (now.is_unprinted ≡ true)
       × Tells (told was.tray) (told now.tray) (wanted.Unprinted ∷ [])
 
   -- the one, or, only where the printer may lack memory for this policy, the other
-  abbrev pub IsHandedOver : Type 0 → KeptDesk P T D → KeptDesk P T D → List Subject → Type 0
+  abbrev pub IsHandedOver : Type 0 → KeepingWatch P T → KeepingWatch P T → List Subject → Type 0
   IsHandedOver Lacks was now policy = IsTold was now policy ⊎ (Lacks × IsUntold was now)
 
   -- the same of a policy of which that was told already: it isn't told again
-  abbrev pub IsHandedOverLate : Type 0 → KeptDesk P T D → KeptDesk P T D → List Subject → Type 0
+  abbrev pub IsHandedOverLate : Type 0 → KeepingWatch P T → KeepingWatch P T → List Subject → Type 0
   IsHandedOverLate Lacks was now policy = IsTold was now policy ⊎ (Lacks × Rests was now)
+
+  -- at a question: a policy of which it was told that it wasn't printed, and else nothing
+  abbrev pub IsLate : Bool → Type 0 → KeepingWatch P T → KeepingWatch P T → List Subject → Type 0
+  IsLate true Lacks was now policy = IsHandedOverLate Lacks was now policy
+  IsLate false Lacks was now policy = Rests was now
+
+  -- what is told where this is seen of a desk: the policy with an edit, and of one that was loaded
+  -- that nothing is to be kept
+  abbrev pub HandsOverBy : (P → List Subject → Type 0) → KeepingWatch P T → Seen → KeepingWatch P T
+      → Type 0
+  HandsOverBy lacks was (stored gauge) now = Rests was now
+  HandsOverBy lacks was (edited policy edits) now =
+      IsHandedOver (lacks was.printer policy) was now policy
+  HandsOverBy lacks was (loaded policy) now = Forgets was now
+  HandsOverBy lacks was (questioned policy) now =
+      IsLate was.is_unprinted (lacks was.printer policy) was now policy
+
+  -- that, by the same printer
+  abbrev pub HandsOver : (P → List Subject → Type 0) → KeepingWatch P T → Seen → KeepingWatch P T
+      → Type 0
+  HandsOver lacks was seen now = HandsOverBy lacks was seen now × (now.printer ≡ was.printer)
 
 -- ---- a store
 

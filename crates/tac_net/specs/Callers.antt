@@ -89,10 +89,6 @@ IsRefused (Listed directory proxy) address way why who =
     ≡ Some why)
     × (who ≡ option_map_or (λ device. named_by device way) found None)
 
-abbrev pub MayNotCall : Callers → IpAddr → Way → Type 0
-MayNotCall callers address way =
-    (why : WhyTurnedAway) × (who : Option Named) × IsRefused callers address way why who
-
 -- ---- the doors of a device
 
 -- it is the door of the key, or of the old one, and lines name the device so

@@ -1,5 +1,7 @@
 -- As what connections are counted that are refused, or have ended (docs/REFERENCE.md, "The lines of status").
-use Rattle.std.specs.Prelude.{Bool, if◌then◌else◌}
+use Rattle.std.specs.Prelude.{◌≡◌, Bool, Option, if◌then◌else◌}
+use Rattle.std.specs.declared.net.ip_addr.IpAddr.{IpAddr}
+use Rattle.tac_audit.specs.declared.event.Named.{Named}
 use Rattle.tac_audit.specs.declared.event.WhyTurnedAway.{WhyTurnedAway}
 use Rattle.tac_audit.specs.declared.event.WhyTurnedAway.TheVariants as refusals
 use Rattle.tac_census.specs.declared.refusal.Refusal.{Refusal}
@@ -12,8 +14,9 @@ use Rattle.tac_status.specs.declared.connection_counts.Rejection.{Rejection}
 use Rattle.tac_status.specs.declared.connection_counts.Rejection.TheVariants as rejections
 use Rattle.tac_worker.specs.declared.end.End.{End}
 use Rattle.tac_worker.specs.declared.end.End.TheVariants as ends
-use Rattle.tac_net.specs.declared.departing.Parting.{Parting}
-use Rattle.tac_net.specs.declared.departing.Parting.TheVariants as partings
+use Rattle.tac_net.specs.Callers.{IsRefused}
+use Rattle.tac_net.specs.declared.callers.Callers.{Callers}
+use Rattle.tac_net.specs.declared.peer.Way.{Way}
 
 -- ---- refused as they came
 
@@ -63,10 +66,19 @@ given_up_as untaken asks =
     if untaken then departures.NotTaken
     else if asks then departures.LoginIdle else departures.Idle
 
--- one that a worker let go of, where a read lacked memory for packets, or a reply waits to be taken
-abbrev pub departs_as : Parting → Bool → Bool → Departure
-departs_as (partings.Left stop) lacks untaken = left_as lacks stop
-departs_as (partings.GivenUp asks) lacks untaken = given_up_as untaken asks
-departs_as partings.Unwatched lacks untaken = departures.Server
-departs_as partings.Crowded lacks untaken = departures.Hashing
-departs_as partings.Memory lacks untaken = departures.Memory
+-- one whose device was found when it came, and is refused when its first packet is whole: it was taken
+-- out of the file, or may not come so any more
+abbrev pub gone_as : WhyTurnedAway → Departure
+gone_as refusals.UnknownDevice = departures.Unlisted
+gone_as refusals.NoKey = departures.Changed
+gone_as refusals.NoTls = departures.Changed
+gone_as refusals.NoCertificate = departures.Changed
+gone_as refusals.OtherCertificate = departures.Changed
+gone_as refusals.BadProxyHeader = departures.Changed
+gone_as refusals.TooManyConnections = departures.Changed
+
+-- by why a call from this address is refused now
+abbrev pub IsGone : Callers → IpAddr → Way → Departure → Type 0
+IsGone callers address way gone =
+    (why : WhyTurnedAway) × (who : Option Named) × IsRefused callers address way why who
+    × (gone ≡ gone_as why)

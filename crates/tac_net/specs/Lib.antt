@@ -9,7 +9,6 @@ pub mod Places
 pub mod Clear
 pub mod Patience
 pub mod Pause
-pub mod Filling
 pub mod Witness
 pub mod Standing
 pub mod Fates

@@ -53,13 +53,6 @@ pub(crate) enum Found<'a> {
     Certified(&'a Device, &'a ClearDoor),
 }
 
-/// Why a call is refused, and how lines name its device, if it is known.
-#[derive(Clone, Copy)]
-pub(crate) struct TurnedDown {
-    pub(crate) why: WhyTurnedAway,
-    pub(crate) named: Option<Named>,
-}
-
 /// Who calls: the door of its connection, and how lines of a log name it.
 #[derive(Clone, Copy)]
 pub(crate) struct Caller<'a> {
@@ -216,24 +209,18 @@ fn find_listed<'a>(
     proxy: &'a Option<ClearDoor>,
     address: &IpAddr,
     way: &Way,
-) -> Result<Found<'a>, TurnedDown>
+) -> Result<Found<'a>, (WhyTurnedAway, Option<Named>)>
     ensures found { IfOk result (λ found.
         callers.IsFoundAt (Listed directory.now proxy.now) address.now way.now found) }
     ensures refused { IfErr result (λ refused. callers.IsRefused (Listed directory.now proxy.now)
-        address.now way.now refused.why refused.named) }
+        address.now way.now refused.0 refused.1) }
 {
     let Some(device) = directory.devices().find(address) else {
-        return Err(TurnedDown {
-            why: WhyTurnedAway::UnknownDevice,
-            named: None,
-        });
+        return Err((WhyTurnedAway::UnknownDevice, None));
     };
     match found_as(proxy, device, way) {
         Ok(found) => Ok(found),
-        Err(why) => Err(TurnedDown {
-            why,
-            named: named_by(device, way),
-        }),
+        Err(why) => Err((why, named_by(device, way))),
     }
 }
 
@@ -254,22 +241,23 @@ impl Callers {
         }
     }
 
-    /// Who is found at this address that comes this way, if a device may call so; else why not. An
-    /// IPv4 address that came as IPv6 is looked up as IPv4. Linear in the prefixes that are listed;
-    /// no memory.
-    pub(crate) fn find(&self, address: &IpAddr, way: &Way) -> Result<Found<'_>, TurnedDown>
+    /// Who is found at this address that comes this way, if a device may call so; else why not, and
+    /// how lines name its device, if it is known. An IPv4 address that came as IPv6 is looked up as
+    /// IPv4. Linear in the prefixes that are listed; no memory.
+    pub(crate) fn find(
+        &self,
+        address: &IpAddr,
+        way: &Way,
+    ) -> Result<Found<'_>, (WhyTurnedAway, Option<Named>)>
         ensures found { IfOk result (λ found.
             callers.IsFoundAt self.now address.now way.now found) }
         ensures refused { IfErr result (λ refused.
-            callers.IsRefused self.now address.now way.now refused.why refused.named) }
+            callers.IsRefused self.now address.now way.now refused.0 refused.1) }
     {
         match self {
             Callers::Any(key) => match way {
                 Way::Port => Ok(Found::Anyone(key)),
-                Way::Proxy(_) => Err(TurnedDown {
-                    why: WhyTurnedAway::NoTls,
-                    named: None,
-                }),
+                Way::Proxy(_) => Err((WhyTurnedAway::NoTls, None)),
             },
             Callers::Listed { directory, proxy } => find_listed(directory, proxy, address, way),
         }

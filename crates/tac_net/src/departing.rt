@@ -1,27 +1,17 @@
 //! Why a connection ends, as it is counted.
 
-ghost use Rattle.std.specs.Prelude.{◌≡◌, is_some};
+ghost use Rattle.std.specs.Prelude.{◌≡◌, is_some, IfOk, IfErr};
+ghost use Rattle.std.specs.Net.Socket.{socket_ip};
+ghost use Rattle.tac_net.specs.Callers.{IsFoundAt};
 ghost use Rattle.tac_net.specs.Fates as fates;
 
+use crate::callers::{Callers, Found};
+use crate::peer::Peer;
 use crate::socket::Socket;
 use std::time::Clock;
+use tac_audit::WhyTurnedAway;
 use tac_status::Departure;
 use tac_worker::{End, Stop};
-
-/// Why a worker lets go of a connection.
-#[derive(Clone, Copy)]
-pub(crate) enum Parting {
-    /// It was left so, and can't go on.
-    Left(Stop),
-    /// Its device is given up. Its last reply asked for a name or a password, or not.
-    GivenUp { asks: bool },
-    /// The system can't wait for it.
-    Unwatched,
-    /// Too many passwords wait to be worked out.
-    Crowded,
-    /// Memory ran out.
-    Memory,
-}
 
 // Why one is counted that ended so on this socket.
 fn by_end<S, C: Clock>(end: End, socket: &Socket<'_, S, C>) -> Departure
@@ -38,19 +28,56 @@ fn by_end<S, C: Clock>(end: End, socket: &Socket<'_, S, C>) -> Departure
     }
 }
 
-/// Why a connection is counted that a worker lets go of so.
-pub(crate) fn departure<S, C: Clock>(parting: Parting, socket: &Socket<'_, S, C>) -> Departure
-    ensures { result ≡ fates.departs_as parting socket.now.share.lacks
-        (is_some socket.now.patience.waits) }
+/// Why one is counted that was left so on this socket, for good.
+pub(crate) fn by_stop<S, C: Clock>(stop: Stop, socket: &Socket<'_, S, C>) -> Departure
+    ensures { result ≡ fates.left_as socket.now.share.lacks stop }
 {
-    match parting {
-        Parting::Left(Stop::Ended(end)) => by_end(end, socket),
-        Parting::Left(Stop::Broken) => Departure::Write,
-        Parting::Left(_) | Parting::Unwatched => Departure::Server,
-        Parting::GivenUp { asks: _ } if socket.has_untaken() => Departure::NotTaken,
-        Parting::GivenUp { asks: true } => Departure::LoginIdle,
-        Parting::GivenUp { asks: false } => Departure::Idle,
-        Parting::Crowded => Departure::Hashing,
-        Parting::Memory => Departure::Memory,
+    match stop {
+        Stop::Ended(end) => by_end(end, socket),
+        Stop::Broken => Departure::Write,
+        Stop::Absent | Stop::Busy | Stop::Idle | Stop::Digest | Stop::Full => Departure::Server,
+    }
+}
+
+/// Why one is counted whose device is given up. Its last reply asked for a name or a password, or
+/// not.
+pub(crate) fn given_up<S, C: Clock>(asks: bool, socket: &Socket<'_, S, C>) -> Departure
+    ensures { result ≡ fates.given_up_as (is_some socket.now.patience.waits) asks }
+{
+    if socket.has_untaken() {
+        Departure::NotTaken
+    } else if asks {
+        Departure::LoginIdle
+    } else {
+        Departure::Idle
+    }
+}
+
+// Why one is counted whose device is refused for this reason, after it was found before.
+fn by_refusal(why: WhyTurnedAway) -> Departure
+    ensures { result ≡ fates.gone_as why }
+{
+    match why {
+        WhyTurnedAway::UnknownDevice => Departure::Unlisted,
+        WhyTurnedAway::NoKey
+        | WhyTurnedAway::NoTls
+        | WhyTurnedAway::NoCertificate
+        | WhyTurnedAway::OtherCertificate
+        | WhyTurnedAway::BadProxyHeader
+        | WhyTurnedAway::TooManyConnections => Departure::Changed,
+    }
+}
+
+/// Who is found at the other end of a connection that was accepted, if a device may still call so;
+/// else why the connection ends.
+pub(crate) fn found_again<'a>(callers: &'a Callers, peer: &Peer) -> Result<Found<'a>, Departure>
+    ensures found { IfOk result (λ found.
+        IsFoundAt callers.now (socket_ip peer.now.address) peer.now.way found) }
+    ensures gone { IfErr result (λ gone.
+        fates.IsGone callers.now (socket_ip peer.now.address) peer.now.way gone) }
+{
+    match callers.find(&peer.address.ip(), &peer.way) {
+        Ok(found) => Ok(found),
+        Err((why, _)) => Err(by_refusal(why)),
     }
 }

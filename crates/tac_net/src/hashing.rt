@@ -72,7 +72,7 @@ impl Hashing {
                 return;
             };
             let done = job.done();
-            let worker = done.place.worker;
+            let worker = done.ticket.worker;
             self.digests.finish(rt, done);
             intake.wake(worker);
         }

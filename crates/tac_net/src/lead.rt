@@ -1,6 +1,7 @@
 //! A connection up to its first packet.
 
 use crate::callers::Callers;
+use crate::departing::found_again;
 use crate::packet_memory::{PacketMemory, PacketShare};
 use crate::patience::{Idle, Patience};
 use crate::peer::Peer;
@@ -58,10 +59,7 @@ impl<'a, S> Lead<'a, S> {
 
     // Which of its device's keys it has, as far as what came shows it.
     fn shown(&self, alloc: Global, callers: &Callers) -> Result<Option<Shown>, Departure> {
-        let Ok(found) = callers.find(&self.peer.address.ip(), &self.peer.way) else {
-            return Err(Departure::Unlisted);
-        };
-        found
+        found_again(callers, &self.peer)?
             .shown_by(alloc, self.begun.as_slice())
             .map_err(by_memory)
     }

@@ -3,12 +3,12 @@
 ghost use Rattle.std.specs.Prelude.{◌≡◌};
 ghost use Rattle.tac_net.specs.Fates as fates;
 
-use crate::callers::TurnedDown;
 use crate::hush::{COMPLAINT_PAUSE, Hush};
 use crate::premises::Premises;
 use crate::witness::origin_of;
 use basics::Bytes;
 use std::alloc::{AllocError, Global};
+use std::array;
 use std::net::SocketAddr;
 use std::sync::Wait;
 use std::sync::atomic::{AtomicU64, Ordering};
@@ -17,7 +17,7 @@ use tac_audit::{Named, Origin, WhyTurnedAway};
 use tac_desk::Desk;
 use tac_hall::Run;
 use tac_journal::{Log, LogFiles, LogWriter, log_turned_away};
-use tac_status::Rejection;
+use tac_status::{REJECTION_COUNT, Rejection};
 
 /// How long the log isn't told again, in milliseconds.
 const LINE_PAUSE: u64 = 1_000;
@@ -50,13 +50,8 @@ impl Untold {
 /// What is said of connections that are closed as soon as they come. One worker accepts for all, so
 /// it alone adds to this.
 pub(crate) struct TurnedAway {
-    unknown_device: Untold,
-    no_key: Untold,
-    no_tls: Untold,
-    no_certificate: Untold,
-    other_certificate: Untold,
-    bad_header: Untold,
-    crowded: Untold,
+    // one for each reason
+    untold: [Untold; REJECTION_COUNT],
     complaints: Hush,
 }
 
@@ -64,13 +59,7 @@ pub(crate) struct TurnedAway {
 impl Drop for TurnedAway {
     fn drop(self) {
         let TurnedAway {
-            unknown_device: _,
-            no_key: _,
-            no_tls: _,
-            no_certificate: _,
-            other_certificate: _,
-            bad_header: _,
-            crowded: _,
+            untold: _,
             complaints: _,
         } = self;
     }
@@ -96,7 +85,7 @@ fn origin(
 fn log<R, J: Run, D: Desk, L: Log>(
     premises: &Premises<'_, R, J, D, L>,
     address: Option<SocketAddr>,
-    refused: TurnedDown,
+    refused: (WhyTurnedAway, Option<Named>),
     count: u64,
 )
 where
@@ -106,9 +95,10 @@ where
     if !premises.log.is_kept() {
         return;
     }
-    if let Ok(origin) = origin(rt.alloc(), address, refused.named) {
+    let (why, named) = refused;
+    if let Ok(origin) = origin(rt.alloc(), address, named) {
         let mut log = LogWriter::new(rt, premises.log);
-        let _ = log_turned_away(rt.alloc(), rt, &mut log, origin, refused.why, count);
+        let _ = log_turned_away(rt.alloc(), rt, &mut log, origin, why, count);
     }
 }
 
@@ -127,52 +117,23 @@ fn rejection(why: WhyTurnedAway) -> Rejection
     }
 }
 
-// What standard error is told of it.
-fn complaint(why: WhyTurnedAway) -> &'static str {
-    match why {
-        WhyTurnedAway::UnknownDevice => "unknown device",
-        WhyTurnedAway::NoKey => "the device has no key",
-        WhyTurnedAway::NoTls => "the device may not come by a proxy",
-        WhyTurnedAway::NoCertificate => "the proxy verified no certificate of the device",
-        WhyTurnedAway::OtherCertificate => "the device has a certificate of another name",
-        WhyTurnedAway::BadProxyHeader => "bad proxy header",
-        WhyTurnedAway::TooManyConnections => "too many connections",
-    }
-}
-
 impl TurnedAway {
     /// Nothing was to be said yet.
     pub(crate) fn new() -> TurnedAway {
         TurnedAway {
-            unknown_device: Untold::new(),
-            no_key: Untold::new(),
-            no_tls: Untold::new(),
-            no_certificate: Untold::new(),
-            other_certificate: Untold::new(),
-            bad_header: Untold::new(),
-            crowded: Untold::new(),
+            untold: array::from_fn(|_| Untold::new()),
             complaints: Hush::new(COMPLAINT_PAUSE),
-        }
-    }
-
-    fn untold(&self, why: WhyTurnedAway) -> &Untold {
-        match why {
-            WhyTurnedAway::UnknownDevice => &self.unknown_device,
-            WhyTurnedAway::NoKey => &self.no_key,
-            WhyTurnedAway::NoTls => &self.no_tls,
-            WhyTurnedAway::NoCertificate => &self.no_certificate,
-            WhyTurnedAway::OtherCertificate => &self.other_certificate,
-            WhyTurnedAway::BadProxyHeader => &self.bad_header,
-            WhyTurnedAway::TooManyConnections => &self.crowded,
         }
     }
 
     // Says why a connection is closed, once a minute at most.
     fn complain<R: Clock + Eprint>(&self, rt: &R, address: Option<SocketAddr>, why: WhyTurnedAway) {
+        let Some(why) = rejection(why).row().complaint else {
+            return;
+        };
         if !self.complaints.breaks(rt) {
             return;
         }
-        let why = complaint(why);
         let _ = match address {
             Some(address) => {
                 // as a devices' file has it
@@ -188,28 +149,29 @@ impl TurnedAway {
         &self,
         premises: &Premises<'_, R, J, D, L>,
         address: Option<SocketAddr>,
-        refused: TurnedDown,
+        refused: (WhyTurnedAway, Option<Named>),
     )
     where
         R: Wait + Clock + AllocGlobal + Eprint + LogFiles,
     {
-        premises.counts.connections.reject(rejection(refused.why));
-        if let Some(count) = self.untold(refused.why).add(premises.rt) {
+        let rejection = rejection(refused.0);
+        premises.counts.connections.reject(rejection);
+        if let Some(count) = self.untold[rejection as usize].add(premises.rt) {
             log(premises, address, refused, count);
         }
     }
 
-    /// A device may not call so from this address.
+    /// A device may not call so from this address, for this reason. Lines name it so, if it is known.
     pub(crate) fn refuse<R, J: Run, D: Desk, L: Log>(
         &self,
         premises: &Premises<'_, R, J, D, L>,
         address: SocketAddr,
-        refused: TurnedDown,
+        refused: (WhyTurnedAway, Option<Named>),
     )
     where
         R: Wait + Clock + AllocGlobal + Eprint + LogFiles,
     {
-        self.complain(premises.rt, Some(address), refused.why);
+        self.complain(premises.rt, Some(address), refused.0);
         self.tell(premises, Some(address), refused);
     }
 
@@ -223,7 +185,7 @@ impl TurnedAway {
     {
         let why = WhyTurnedAway::BadProxyHeader;
         self.complain(premises.rt, None, why);
-        self.tell(premises, None, TurnedDown { why, named: None });
+        self.tell(premises, None, (why, None));
     }
 
     /// There are as many connections of this address as may be of one. The log is told only of a
@@ -242,6 +204,6 @@ impl TurnedAway {
             return;
         }
         let why = WhyTurnedAway::TooManyConnections;
-        self.tell(premises, Some(address), TurnedDown { why, named });
+        self.tell(premises, Some(address), (why, named));
     }
 }

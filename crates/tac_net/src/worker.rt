@@ -1,13 +1,14 @@
 //! A worker: a seat that serves many connections in turns.
 
-ghost use Rattle.std.specs.Prelude.{◌≡◌, IfSome, IfNone};
+ghost use Rattle.std.specs.Prelude.{◌≡◌, IfOk, IfErr};
 ghost use Rattle.std.specs.Net.Socket.{socket_ip};
-ghost use Rattle.tac_net.specs.Callers.{MayCall, MayNotCall};
+ghost use Rattle.tac_net.specs.Callers.{MayCall};
 ghost use Rattle.tac_net.specs.Connections.{HasServed};
+ghost use Rattle.tac_net.specs.Fates.{IsGone};
 
 use crate::acceptor::Acceptor;
 use crate::callers::Caller;
-use crate::departing::{Parting, departure};
+use crate::departing::{by_stop, found_again, given_up};
 use crate::intake::{Arrival, Intake};
 use crate::lead::Lead;
 use crate::misfits::Misfits;
@@ -28,7 +29,7 @@ use std::sync::Wait;
 use std::time::{Clock, Duration};
 use tac_audit::Named;
 use tac_desk::Desk;
-use tac_digests::{Done, Job};
+use tac_digests::{Done, HashTicket, Job};
 use tac_first::Shown;
 use tac_hall::{Run, Seat};
 use tac_journal::{Log, LogFiles, Moments};
@@ -113,26 +114,24 @@ fn terms_by<'a, R: AllocGlobal, J: Run, D: Desk, L>(
 }
 
 // By what a connection of this peer is served that shows this of its device's keys, and how lines
-// name it, if a device may call so from there.
+// name it, if a device may still call so from there; else why it ends.
 fn terms_of<'a, R: AllocGlobal, J: Run, D: Desk, L>(
     premises: &Premises<'a, R, J, D, L>,
     peer: Peer,
     shown: Shown,
-) -> Option<(Terms<'a>, Option<Named>)>
-    ensures some { IfSome result (λ found. MayCall premises.now.settings.now.callers
+) -> Result<(Terms<'a>, Option<Named>), Departure>
+    ensures may { IfOk result (λ found. MayCall premises.now.settings.now.callers
         (socket_ip peer.address) peer.way found.0.door.now found.1) }
-    ensures none { IfNone result (MayNotCall premises.now.settings.now.callers
-        (socket_ip peer.address) peer.way) }
+    ensures gone { IfErr result (λ gone. IsGone premises.now.settings.now.callers
+        (socket_ip peer.address) peer.way gone) }
 {
-    let Ok(found) = premises
-        .settings
-        .callers
-        .find(&peer.address.ip(), &peer.way)
-    else {
-        return None;
-    };
-    let Caller { door, named } = found.caller(&peer.way, shown);
-    Some((terms_by(premises, door), named))
+    match found_again(&premises.settings.callers, &peer) {
+        Ok(found) => {
+            let Caller { door, named } = found.caller(&peer.way, shown);
+            Ok((terms_by(premises, door), named))
+        }
+        Err(gone) => Err(gone),
+    }
 }
 
 // What is said of those whose packets don't fit their keys; nothing where packets come in clear.
@@ -191,14 +190,23 @@ where
     }
 
     // Lets go of a connection, if there is one of this key.
-    fn remove(&mut self, key: usize, parting: Parting)
+    fn remove(&mut self, key: usize, why: Departure)
         ensures { self.new ≡ self.old }
     {
         if let Some(line) = self.board.remove(key) {
-            let socket = line.socket();
-            let why = departure(parting, socket);
-            leave(self.premises, self.at, socket.address(), why);
+            leave(self.premises, self.at, line.socket().address(), why);
         }
+    }
+
+    // Lets go of a connection that was left so, for good.
+    fn end(&mut self, key: usize, stop: Stop)
+        ensures { self.new ≡ self.old }
+    {
+        let Some(line) = self.board.get(key) else {
+            return;
+        };
+        let why = by_stop(stop, line.socket());
+        self.remove(key, why);
     }
 
     // Has a connection take more steps without being heard. Without memory for that it is over.
@@ -206,7 +214,7 @@ where
         ensures { self.new ≡ self.old }
     {
         if let Err(_) = self.busy.push(key) {
-            self.remove(key, Parting::Memory);
+            self.remove(key, Departure::Memory);
         }
     }
 
@@ -219,15 +227,15 @@ where
         let (number, work) = match self.board.take_work(key, rt.alloc()) {
             Ok(Some(taken)) => taken,
             Ok(None) => return,
-            Err(_) => return self.remove(key, Parting::Memory),
+            Err(_) => return self.remove(key, Departure::Memory),
         };
-        let place = tac_digests::Place {
+        let ticket = HashTicket {
             worker: self.at,
             key,
             number,
         };
-        if !hashing.add(rt, Job { place, work }) {
-            self.remove(key, Parting::Crowded);
+        if !hashing.add(rt, Job { ticket, work }) {
+            self.remove(key, Departure::Hashing);
         }
     }
 
@@ -245,7 +253,7 @@ where
             return !is_held;
         };
         if let Err(_) = self.held.push_back((until, key)) {
-            self.remove(key, Parting::Memory);
+            self.remove(key, Departure::Memory);
         }
         false
     }
@@ -272,7 +280,7 @@ where
             }
             Stop::Full => self.hold(key),
             Stop::Ended(_) | Stop::Broken => {
-                self.remove(key, Parting::Left(stop));
+                self.end(key, stop);
                 false
             }
             Stop::Idle | Stop::Absent => false,
@@ -296,7 +304,7 @@ where
             poller.register(stream, key, is_full)
         };
         if let Err(_) = registered {
-            self.remove(key, Parting::Unwatched);
+            self.remove(key, Departure::Server);
         }
     }
 
@@ -335,8 +343,9 @@ where
             intake,
             ..
         } = *self.premises;
-        let Some((terms, named)) = terms_of(self.premises, lead.peer, shown) else {
-            return Err(Departure::Unlisted);
+        let (terms, named) = match terms_of(self.premises, lead.peer, shown) {
+            Ok(found) => found,
+            Err(gone) => return Err(gone),
         };
         let told = Told {
             counts: &counts.requests,
@@ -433,11 +442,11 @@ where
     {
         let rt = self.premises.rt;
         'passwords: for _ in rt.forever() {
-            let Some(Done { place, password }) = self.premises.hashing.collect(rt, self.at) else {
+            let Some(Done { ticket, password }) = self.premises.hashing.collect(rt, self.at) else {
                 return;
             };
-            if self.board.adopt(place.key, place.number, password) {
-                self.serve(poller, place.key);
+            if self.board.adopt(ticket.key, ticket.number, password) {
+                self.serve(poller, ticket.key);
             }
         }
     }
@@ -569,15 +578,15 @@ where
         }
     }
 
-    // The keys of the connections whose devices are to be given up, and whether their last replies
-    // ask for text; or of some of them where memory is out.
-    fn over(&self, now: Option<u64>) -> Vec<(usize, bool)> {
+    // The keys of the connections whose devices are to be given up, and why; or of some of them
+    // where memory is out.
+    fn over(&self, now: Option<u64>) -> Vec<(usize, Departure)> {
         let idle = self.premises.settings.idle;
         let mut keys = Vec::new(self.premises.rt.alloc());
         for (key, line) in self.board.lines() {
             let asks = line.link().witness().asks();
             let is_over = line.socket().is_over(idle, asks, now) && !line.link().awaits_digest();
-            if is_over && keys.push((key, asks)).is_err() {
+            if is_over && keys.push((key, given_up(asks, line.socket()))).is_err() {
                 return keys;
             }
         }
@@ -629,8 +638,8 @@ where
             return;
         }
         self.swept = moment;
-        'keys: for (key, asks) in self.over(now) {
-            self.remove(key, Parting::GivenUp { asks });
+        'keys: for (key, why) in self.over(now) {
+            self.remove(key, why);
         }
         self.sweep_leads(now);
         if let Some(acceptor) = &mut self.acceptor {

@@ -6,18 +6,18 @@ use Rattle.tac_operators.specs.Holding.{holder_after}
 use Rattle.tac_operators.specs.declared.part.Part.{Part}
 use Rattle.tac_operators.specs.declared.part.Part.TheVariants as parts
 use Rattle.tac_operators.specs.declared.board.Operator.{Operator}
-use Rattle.tac_operators.specs.declared.board.Slip.{Slip}
-use Rattle.tac_operators.specs.declared.board.Place.{Place}
-use Rattle.tac_operators.specs.declared.board.Place.TheVariants as places
+use Rattle.tac_operators.specs.declared.board.Message.{Message}
+use Rattle.tac_operators.specs.declared.board.Mailbox.{Mailbox}
+use Rattle.tac_operators.specs.declared.board.Mailbox.TheVariants as mailboxes
 use Rattle.tac_operators.specs.declared.board.Ruling.{Ruling}
 use Rattle.tac_operators.specs.declared.board.Ruling.TheVariants as rulings
 use Rattle.tac_operators.specs.declared.board.Board.{Board}
 
 abbrev pub empty : Board
-empty = record { place = places.Free; holder = None }
+empty = record { mailbox = mailboxes.Free; holder = None }
 
 abbrev pub ended : Board
-ended = record { place = places.Ended; holder = None }
+ended = record { mailbox = mailboxes.Ended; holder = None }
 
 -- ---- a line is put there
 
@@ -28,76 +28,76 @@ ruling_beside None operator part = rulings.Put
 ruling_beside (Some holder) operator part =
     if holder.number == operator.number then rulings.Put else rulings.Busy holder
 
-abbrev pub ruling_at : Place → Option Operator → Operator → Part → Ruling
-ruling_at places.Free holder operator part = ruling_beside holder operator part
-ruling_at places.Ended holder operator part = rulings.Ended
-ruling_at place holder operator part = rulings.Occupied
+abbrev pub ruling_at : Mailbox → Option Operator → Operator → Part → Ruling
+ruling_at mailboxes.Free holder operator part = ruling_beside holder operator part
+ruling_at mailboxes.Ended holder operator part = rulings.Ended
+ruling_at mailbox holder operator part = rulings.Occupied
 
 abbrev pub ruling : Board → Operator → Part → Ruling
-ruling board operator part = ruling_at board.place board.holder operator part
+ruling board operator part = ruling_at board.mailbox board.holder operator part
 
-abbrev pub after_put : Board → Slip → Ruling → Board
-after_put board slip rulings.Put = record board { place = places.Typed slip }
-after_put board slip _ = board
+abbrev pub after_put : Board → Message → Ruling → Board
+after_put board message rulings.Put = record board { mailbox = mailboxes.Typed message }
+after_put board message _ = board
 
 -- ---- the console takes it, and answers it
 
-abbrev pub line_of : Place → Option (List ℕ)
-line_of (places.Typed slip) = Some slip.text
+abbrev pub line_of : Mailbox → Option (List ℕ)
+line_of (mailboxes.Typed message) = Some message.text
 line_of _ = None
 
 -- the answer is that of the same line of the same operator, and is empty so far
-abbrev pub place_taken : Place → Place
-place_taken (places.Typed slip) = places.Taken (record slip { text = [] })
-place_taken place = place
+abbrev pub mailbox_taken : Mailbox → Mailbox
+mailbox_taken (mailboxes.Typed message) = mailboxes.Taken (record message { text = [] })
+mailbox_taken mailbox = mailbox
 
 abbrev pub after_taken : Board → Board
-after_taken board = record board { place = place_taken board.place }
+after_taken board = record board { mailbox = mailbox_taken board.mailbox }
 
 -- a text is added to the answer of the line that was taken, or is nobody's answer
-abbrev pub AddsAt : List ℕ → Place → Place → Bool → Type 0
-AddsAt text (places.Taken slip) now is_answer =
-    (is_answer ≡ true) × (now ≡ places.Taken (record slip { text = slip.text ++ text }))
-AddsAt text place now is_answer = (is_answer ≡ false) × (now ≡ place)
+abbrev pub AddsAt : List ℕ → Mailbox → Mailbox → Bool → Type 0
+AddsAt text (mailboxes.Taken message) now is_answer =
+    (is_answer ≡ true) × (now ≡ mailboxes.Taken (record message { text = message.text ++ text }))
+AddsAt text mailbox now is_answer = (is_answer ≡ false) × (now ≡ mailbox)
 
 abbrev pub Adds : List ℕ → Board → Board → Result Bool AllocError → Type 0
 Adds text was now (Ok is_answer) =
-    AddsAt text was.place now.place is_answer × (now.holder ≡ was.holder)
+    AddsAt text was.mailbox now.mailbox is_answer × (now.holder ≡ was.holder)
 Adds text was now (Err error) = now ≡ was
 
 -- the name of whose line the console answers now, if he said one
-abbrev pub typist_at : Place → Option (List ℕ)
-typist_at (places.Taken slip) = slip.operator.name
-typist_at place = None
+abbrev pub typist_at : Mailbox → Option (List ℕ)
+typist_at (mailboxes.Taken message) = message.operator.name
+typist_at mailbox = None
 
-abbrev pub answered_at : Place → Option Operator → Board
-answered_at (places.Taken slip) holder = record {
-  place = places.Answered slip;
-  holder = holder_after holder slip.operator slip.part;
+abbrev pub answered_at : Mailbox → Option Operator → Board
+answered_at (mailboxes.Taken message) holder = record {
+  mailbox = mailboxes.Answered message;
+  holder = holder_after holder message.operator message.part;
 }
-answered_at place holder = record { place = place; holder = holder }
+answered_at mailbox holder = record { mailbox = mailbox; holder = holder }
 
 abbrev pub after_answered : Board → Board
-after_answered board = answered_at board.place board.holder
+after_answered board = answered_at board.mailbox board.holder
 
 -- ---- its operator takes the answer
 
-abbrev pub answer_for : ℕ → Place → Option (List ℕ)
-answer_for number (places.Answered slip) =
-    if slip.operator.number == number then Some slip.text else None
+abbrev pub answer_for : ℕ → Mailbox → Option (List ℕ)
+answer_for number (mailboxes.Answered message) =
+    if message.operator.number == number then Some message.text else None
 answer_for number _ = None
 
-abbrev pub place_answer_taken : ℕ → Place → Place
-place_answer_taken number (places.Answered slip) =
-    if slip.operator.number == number then places.Free else places.Answered slip
-place_answer_taken number place = place
+abbrev pub mailbox_answer_taken : ℕ → Mailbox → Mailbox
+mailbox_answer_taken number (mailboxes.Answered message) =
+    if message.operator.number == number then mailboxes.Free else mailboxes.Answered message
+mailbox_answer_taken number mailbox = mailbox
 
 abbrev pub after_answer_taken : ℕ → Board → Board
 after_answer_taken number board =
-    record board { place = place_answer_taken number board.place }
+    record board { mailbox = mailbox_answer_taken number board.mailbox }
 
 -- ---- the console ends
 
-abbrev pub last_of : Place → Option (List ℕ)
-last_of (places.Taken slip) = Some slip.text
+abbrev pub last_of : Mailbox → Option (List ℕ)
+last_of (mailboxes.Taken message) = Some message.text
 last_of _ = None

@@ -19,7 +19,7 @@ pub(crate) struct Operator {
 
 /// A line, or what it was answered so far, and whose it is.
 #[derive(Drop)]
-pub(crate) struct Slip {
+pub(crate) struct Message {
     pub(crate) operator: Operator,
     pub(crate) part: Part,
     pub(crate) text: Bytes,
@@ -27,15 +27,15 @@ pub(crate) struct Slip {
 
 /// What lies there.
 #[derive(Drop)]
-pub(crate) enum Place {
+pub(crate) enum Mailbox {
     /// Nothing.
     Free,
     /// A line that the console hasn't taken yet.
-    Typed(Slip),
+    Typed(Message),
     /// What a line that the console took is answered so far.
-    Taken(Slip),
+    Taken(Message),
     /// The whole answer.
-    Answered(Slip),
+    Answered(Message),
     /// The console has ended.
     Ended,
 }
@@ -56,7 +56,7 @@ pub(crate) enum Ruling {
 /// The place, and who holds the batch of the console.
 #[derive(Drop)]
 pub(crate) struct Board {
-    pub(crate) place: Place,
+    pub(crate) mailbox: Mailbox,
     pub(crate) holder: Option<Operator>,
 }
 
@@ -66,33 +66,33 @@ impl Board {
         ensures { result ≡ board.empty }
     {
         Board {
-            place: Place::Free,
+            mailbox: Mailbox::Free,
             holder: None,
         }
     }
 
     /// Whether a line can be put there, or never will be.
     pub(crate) fn is_ready(&self) -> bool {
-        matches!(self.place, Place::Free | Place::Ended)
+        matches!(self.mailbox, Mailbox::Free | Mailbox::Ended)
     }
 
     /// Whether a line waits for the console, or none will come.
     pub(crate) fn has_line(&self) -> bool {
-        matches!(self.place, Place::Typed(_) | Place::Ended)
+        matches!(self.mailbox, Mailbox::Typed(_) | Mailbox::Ended)
     }
 
     /// Whether an answer lies there, or none will come.
     pub(crate) fn has_answer(&self) -> bool {
-        matches!(self.place, Place::Answered(_) | Place::Ended)
+        matches!(self.mailbox, Mailbox::Answered(_) | Mailbox::Ended)
     }
 
     // What becomes of a line of this operator.
     fn ruling(&self, operator: Operator, part: Part) -> Ruling
         ensures { result ≡ board.ruling self.now operator part }
     {
-        match self.place {
-            Place::Free => {}
-            Place::Ended => return Ruling::Ended,
+        match self.mailbox {
+            Mailbox::Free => {}
+            Mailbox::Ended => return Ruling::Ended,
             _ => return Ruling::Occupied,
         }
         match self.holder {
@@ -104,30 +104,30 @@ impl Board {
     }
 
     /// Puts a line there, if it may go now.
-    pub(crate) fn put(&mut self, slip: Slip) -> Ruling
-        ensures ruling { result ≡ board.ruling self.old slip.operator slip.part }
-        ensures board { self.new ≡ board.after_put self.old slip result }
+    pub(crate) fn put(&mut self, message: Message) -> Ruling
+        ensures ruling { result ≡ board.ruling self.old message.operator message.part }
+        ensures board { self.new ≡ board.after_put self.old message result }
     {
-        let ruling = self.ruling(slip.operator, slip.part);
+        let ruling = self.ruling(message.operator, message.part);
         if let Ruling::Put = ruling {
-            self.place = Place::Typed(slip);
+            self.mailbox = Mailbox::Typed(message);
         }
         ruling
     }
 
     /// Takes the line that waits. Its answer is empty so far.
     pub(crate) fn take_line(&mut self, alloc: Global) -> Option<Bytes>
-        ensures line { result ≡ board.line_of self.old.place }
+        ensures line { result ≡ board.line_of self.old.mailbox }
         ensures board { self.new ≡ board.after_taken self.old }
     {
-        match mem::replace(&mut self.place, Place::Free) {
-            Place::Typed(slip) => {
-                let Slip {
+        match mem::replace(&mut self.mailbox, Mailbox::Free) {
+            Mailbox::Typed(message) => {
+                let Message {
                     operator,
                     part,
                     text,
-                } = slip;
-                self.place = Place::Taken(Slip {
+                } = message;
+                self.mailbox = Mailbox::Taken(Message {
                     operator,
                     part,
                     text: Bytes::new(alloc),
@@ -135,7 +135,7 @@ impl Board {
                 Some(text)
             }
             other => {
-                self.place = other;
+                self.mailbox = other;
                 None
             }
         }
@@ -147,9 +147,9 @@ impl Board {
         ensures answer { OnOk result (board.Adds text.now self.old self.new result) }
         ensures err { OnErr result (self.new ≡ self.old) }
     {
-        match &mut self.place {
-            Place::Taken(slip) => {
-                slip.text.extend_from_slice(text)?;
+        match &mut self.mailbox {
+            Mailbox::Taken(message) => {
+                message.text.extend_from_slice(text)?;
                 Ok(true)
             }
             _ => Ok(false),
@@ -158,10 +158,10 @@ impl Board {
 
     /// The name that the operator said whose line was taken, and has no whole answer yet.
     pub(crate) fn typist(&self) -> Option<Name>
-        ensures { result ≡ board.typist_at self.now.place }
+        ensures { result ≡ board.typist_at self.now.mailbox }
     {
-        match &self.place {
-            Place::Taken(slip) => slip.operator.name,
+        match &self.mailbox {
+            Mailbox::Taken(message) => message.operator.name,
             _ => None,
         }
     }
@@ -170,28 +170,28 @@ impl Board {
     pub(crate) fn finish(&mut self)
         ensures { self.new ≡ board.after_answered self.old }
     {
-        match mem::replace(&mut self.place, Place::Free) {
-            Place::Taken(slip) => {
-                match slip.part {
-                    Part::Begins => self.holder = Some(slip.operator),
+        match mem::replace(&mut self.mailbox, Mailbox::Free) {
+            Mailbox::Taken(message) => {
+                match message.part {
+                    Part::Begins => self.holder = Some(message.operator),
                     Part::Ends => self.holder = None,
                     Part::Edits | Part::Beside => {}
                 }
-                self.place = Place::Answered(slip);
+                self.mailbox = Mailbox::Answered(message);
             }
-            other => self.place = other,
+            other => self.mailbox = other,
         }
     }
 
     /// Takes the answer of this session's line, if it lies there.
     pub(crate) fn take_answer(&mut self, number: usize) -> Option<Bytes>
-        ensures answer { result ≡ board.answer_for number self.old.place }
+        ensures answer { result ≡ board.answer_for number self.old.mailbox }
         ensures board { self.new ≡ board.after_answer_taken number self.old }
     {
-        match mem::replace(&mut self.place, Place::Free) {
-            Place::Answered(slip) if slip.operator.number == number => Some(slip.text),
+        match mem::replace(&mut self.mailbox, Mailbox::Free) {
+            Mailbox::Answered(message) if message.operator.number == number => Some(message.text),
             other => {
-                self.place = other;
+                self.mailbox = other;
                 None
             }
         }
@@ -200,12 +200,12 @@ impl Board {
     /// The console has ended: what lies there is nobody's any more, but for what the line that was
     /// taken last was answered so far.
     pub(crate) fn end(&mut self) -> Option<Bytes>
-        ensures last { result ≡ board.last_of self.old.place }
+        ensures last { result ≡ board.last_of self.old.mailbox }
         ensures board { self.new ≡ board.ended }
     {
         self.holder = None;
-        match mem::replace(&mut self.place, Place::Ended) {
-            Place::Taken(slip) => Some(slip.text),
+        match mem::replace(&mut self.mailbox, Mailbox::Ended) {
+            Mailbox::Taken(message) => Some(message.text),
             _ => None,
         }
     }

@@ -2,7 +2,7 @@
 
 ghost use Rattle.std.specs.Prelude.{None};
 
-use crate::board::{Board, Operator, Ruling, Slip};
+use crate::board::{Board, Message, Operator, Ruling};
 use basics::Bytes;
 use pol_names::Name;
 use std::alloc::{AllocError, Global};
@@ -83,13 +83,13 @@ impl Exchange {
     }
 
     /// Hands in a line, and waits for its answer: first until the lines before it are answered.
-    pub(crate) fn ask<R: Wait>(&self, rt: &R, slip: Slip) -> Reply {
-        let number = slip.operator.number;
+    pub(crate) fn ask<R: Wait>(&self, rt: &R, message: Message) -> Reply {
+        let number = message.operator.number;
         let board = self.board.lock(rt);
         let mut board = self
             .changed
             .wait_while(rt, board, |board| !board.is_ready());
-        match board.put(slip) {
+        match board.put(message) {
             Ruling::Put => {}
             Ruling::Busy(holder) => return Reply::Busy(holder),
             Ruling::Occupied | Ruling::Ended => return Reply::Ended,

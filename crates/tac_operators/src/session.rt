@@ -1,7 +1,7 @@
 //! One operator at the socket: his lines, and what each of them is answered.
 
 use crate::attending::OPERATORS;
-use crate::board::{Operator, Slip};
+use crate::board::{Message, Operator};
 use crate::exchange::{Exchange, Reply};
 use crate::lines::Begun;
 use crate::part::Part;
@@ -93,15 +93,15 @@ pub(crate) struct Session<'a, R, S> {
 }
 
 // A line of the console, with its LF.
-fn slip<R: AllocGlobal>(
+fn message<R: AllocGlobal>(
     rt: &R,
     operator: Operator,
     part: Part,
     line: &[u8],
-) -> Result<Slip, AllocError> {
+) -> Result<Message, AllocError> {
     let mut text = Bytes::from_slice(rt.alloc(), line)?;
     text.extend_from_slice(b"\n")?;
-    Ok(Slip {
+    Ok(Message {
         operator,
         part,
         text,
@@ -254,10 +254,10 @@ impl<'a, R: Wait + Clock + AllocGlobal, S: Status> Session<'a, R, S> {
 
     // Asks the console.
     fn ask(&self, part: Part, line: &[u8]) -> Went {
-        let Ok(slip) = slip(self.rt, self.operator, part, line) else {
+        let Ok(message) = message(self.rt, self.operator, part, line) else {
             return self.tell(NO_MEMORY);
         };
-        match self.exchange.ask(self.rt, slip) {
+        match self.exchange.ask(self.rt, message) {
             Reply::Answer(text) => self.tell(text.as_slice()),
             Reply::Busy(holder) => self.tell_busy(holder),
             Reply::Ended => Went::Ends,
@@ -343,14 +343,14 @@ impl<'a, R: Wait + Clock + AllocGlobal, S: Status> Session<'a, R, S> {
     /// Answers lines until the session ends, and drops its batch then. A line that isn't whole by
     /// then is dropped too. The result is whether the last line stops the server.
     pub(crate) fn serve(&mut self) -> bool {
-        let Ok(parting) = slip(self.rt, self.operator, Part::Ends, b"abandon") else {
+        let Ok(parting) = message(self.rt, self.operator, Part::Ends, b"abandon") else {
             return false;
         };
         let quits = self.listen();
         if self.exchange.is_held_by(self.rt, self.operator.number) {
             // he may have said his name since
-            let Slip { part, text, .. } = parting;
-            let parting = Slip {
+            let Message { part, text, .. } = parting;
+            let parting = Message {
                 operator: self.operator,
                 part,
                 text,

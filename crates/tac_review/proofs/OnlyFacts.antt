@@ -3,10 +3,12 @@ use Rattle.std.proofs.Common.{◌≡◌, ℕ, List, Result, Ok, Err, IfOk, sym, 
 use Rattle.pol_text.specs.declared.subject.Subject.{Subject}
 use Rattle.pol_meaning.specs.Changes.{AreChanges}
 use Rattle.pol_meaning.specs.declared.Changes.{Changes}
+use Rattle.pol_secrets.specs.Altering.{secret_changes}
+use Rattle.pol_secrets.specs.declared.secret_change.SecretChange.{SecretChange}
 use Rattle.pol_live.specs.Judging.{Judges, IsOnlyJudged}
 use Rattle.pol_live.specs.declared.judging.TextRefusal.{TextRefusal}
 use Rattle.tac_review.specs.Judged.{ByJudged, IsOnly}
-use Rattle.tac_review.specs.Review.{IsRight, Diffs, DiffsTo, ListsEdits, Continues, changes_text, changes_end}
+use Rattle.tac_review.specs.Review.{IsRight, Diffs, ChangesTo, ListsEdits, Continues, changes_text, changes_end}
 use Rattle.tac_review.specs.declared.task.Review.{Review}
 use Rattle.tac_review.specs.declared.task.Review.TheVariants.{Diff, Edits}
 use Rattle.tac_review.specs.declared.task.ReviewEnd.{ReviewEnd}
@@ -28,14 +30,20 @@ judged_only text judged by output end judges one only = record {
 }
 
 -- the changes between two policies
-pub changes_only : (name : List ℕ) (old new : List Subject) (changes : Changes) (output : List ℕ) (end : ReviewEnd) → AreChanges old new changes
-    → ((other : Changes) → AreChanges old new other → changes ≡ other) → output ≡ changes_text changes → end ≡ changes_end changes → IsOnly (DiffsTo name old (Ok new)) output end
-changes_only name old new changes output end are one p q = record {
-  wanted = (changes, are, p, q);
-  only = λ other last w.
-      let same = one w.0 w.1 in
-      (w.2 ∙ ap changes_text (sym same) ∙ sym p, w.3 ∙ ap changes_end (sym same) ∙ sym q);
-}
+pub changes_only : (old new : List Subject) (changes : Changes) (secrets : List SecretChange) (output : List ℕ) (end : ReviewEnd) → AreChanges old new changes
+    → ((other : Changes) → AreChanges old new other → changes ≡ other) → secrets ≡ secret_changes old new → output ≡ changes_text changes secrets → end ≡ changes_end changes secrets
+    → IsOnly (ChangesTo old new) output end
+changes_only old new changes secrets output end are one became p q =
+    let told = p ∙ ap (changes_text changes) became in
+    let ended = q ∙ ap (changes_end changes) became in
+    record {
+      wanted = (changes, are, told, ended);
+      only = λ other last w.
+          let same = one w.0 w.1 in (
+            w.2 ∙ ap (λ (it : Changes). changes_text it (secret_changes old new)) (sym same) ∙ sym told,
+            w.3 ∙ ap (λ (it : Changes). changes_end it (secret_changes old new)) (sym same) ∙ sym ended,
+          );
+    }
 
 pub diff_continues : (review : Review) (name text : List ℕ) (policy : List Subject) (output : List ℕ) (end : ReviewEnd) → review ≡ Diff → IsOnly (Diffs name text policy) output end
     → IsRight review (Continues review name text policy) output end

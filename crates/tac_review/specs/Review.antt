@@ -8,6 +8,9 @@ use Rattle.pol_meaning.specs.Changes.{AreChanges}
 use Rattle.pol_meaning.specs.declared.Changed.{Changed}
 use Rattle.pol_meaning.specs.declared.Changes.{Changes}
 use Rattle.pol_meaning.specs.declared.ServiceChange.{ServiceChange}
+use Rattle.pol_secrets.specs.Altering.{secret_changes}
+use Rattle.pol_secrets.specs.Telling.{secret_lines}
+use Rattle.pol_secrets.specs.declared.secret_change.SecretChange.{SecretChange}
 use Rattle.tac_desk.specs.declared.query.Query.{Query}
 use Rattle.tac_console.specs.Answers.{changed_lines}
 use Rattle.tac_console.specs.ServiceAnswers.{service_lines}
@@ -37,27 +40,33 @@ IsRefused input name refusal output end =
 
 -- ---- what a new policy changes
 
--- as an accepted edit is answered, after its `ok`
-abbrev pub told_text : List Changed → List ServiceChange → List ℕ
-told_text [] [] = codes "same" ++ 10 ∷ []
-told_text lines services = flat_map changed_lines lines ++ flat_map service_lines services
+-- as an accepted edit is answered, after its `ok`, and then what became of secrets
+abbrev pub told_text : List Changed → List ServiceChange → List SecretChange → List ℕ
+told_text [] [] [] = codes "same" ++ 10 ∷ []
+told_text lines services secrets =
+    flat_map changed_lines lines ++ flat_map service_lines services ++ secret_lines secrets
 
-abbrev pub changes_text : Changes → List ℕ
-changes_text changes = told_text changes.lines changes.services
+abbrev pub changes_text : Changes → List SecretChange → List ℕ
+changes_text changes secrets = told_text changes.lines changes.services secrets
 
-abbrev pub told_end : List Changed → List ServiceChange → ReviewEnd
-told_end [] [] = Done
-told_end lines services = Differs
+abbrev pub told_end : List Changed → List ServiceChange → List SecretChange → ReviewEnd
+told_end [] [] [] = Done
+told_end lines services secrets = Differs
 
-abbrev pub changes_end : Changes → ReviewEnd
-changes_end changes = told_end changes.lines changes.services
+abbrev pub changes_end : Changes → List SecretChange → ReviewEnd
+changes_end changes secrets = told_end changes.lines changes.services secrets
+
+-- that is printed of what the new policy changes against the old one
+abbrev pub ChangesTo : List Subject → List Subject → List ℕ → ReviewEnd → Type 0
+ChangesTo old new output end =
+    (changes : Changes) × AreChanges old new changes
+    × (output ≡ changes_text changes (secret_changes old new))
+    × (end ≡ changes_end changes (secret_changes old new))
 
 abbrev pub DiffsTo : List ℕ → List Subject → Result (List Subject) TextRefusal → List ℕ → ReviewEnd
     → Type 0
 DiffsTo name old (Err refusal) output end = IsRefused Second name refusal output end
-DiffsTo name old (Ok new) output end =
-    (changes : Changes) × AreChanges old new changes × (output ≡ changes_text changes)
-    × (end ≡ changes_end changes)
+DiffsTo name old (Ok new) output end = ChangesTo old new output end
 
 -- the exact changes between the policies, if the new one may stand
 abbrev pub Diffs : List ℕ → List ℕ → List Subject → List ℕ → ReviewEnd → Type 0

@@ -1,6 +1,7 @@
 //! What a review prints, and how it ends.
 
 ghost use Rattle.std.specs.Prelude.{◌≡◌, ◌++◌, codes, ◌∷◌, [], Ok, IfOk, OnOk};
+ghost use Rattle.pol_secrets.specs.Altering.{secret_changes as secrets_between};
 ghost use Rattle.tac_console.specs.Answers.{changes_text};
 ghost use Rattle.tac_review.specs.Asking as asking;
 ghost use Rattle.tac_review.specs.Judged.{IsOnly};
@@ -15,6 +16,7 @@ use crate::task::{Input, Review, ReviewEnd, Table};
 use basics::Bytes;
 use pol_live::{Live, TextRefusal};
 use pol_report::{Changes, compare};
+use pol_secrets::{SecretChange, secret_changes, write_secret_changes};
 use std::alloc::{AllocError, Global};
 use std::io::Write;
 use tac_console::write_edit_answer;
@@ -72,17 +74,33 @@ fn same(alloc: Global) -> Result<Vec<u8>, AllocError>
     Ok(text)
 }
 
-// What is printed of changes.
-fn show(alloc: Global, changes: &Changes) -> Result<(Vec<u8>, ReviewEnd), AllocError>
-    ensures { IfOk result (λ output. (output.0.items ≡ reviews.changes_text changes.now)
-        × (output.1 ≡ reviews.changes_end changes.now)) }
+// What is printed of changes, and of what became of secrets.
+fn show(
+    alloc: Global,
+    changes: &Changes,
+    secrets: &[SecretChange],
+) -> Result<(Vec<u8>, ReviewEnd), AllocError>
+    ensures { IfOk result (λ output.
+        (output.0.items ≡ reviews.changes_text changes.now secrets.now)
+        × (output.1 ≡ reviews.changes_end changes.now secrets.now)) }
 {
-    if changes.is_empty() {
+    if changes.is_empty() && secrets.is_empty() {
         let text = same(alloc)?;
         return Ok((text, ReviewEnd::Done));
     }
-    let text = lines_of_changes(alloc, changes)?;
+    let mut text = lines_of_changes(alloc, changes)?;
+    write_secret_changes(&mut text, secrets)?;
     Ok((text, ReviewEnd::Differs))
+}
+
+// What is printed of the changes between two policies.
+fn differ(alloc: Global, old: &Live, new: &Live) -> Result<(Vec<u8>, ReviewEnd), AllocError>
+    ensures { IfOk result (λ output.
+        IsOnly (reviews.ChangesTo old.now new.now) output.0.items output.1) }
+{
+    let changes = compare(alloc, old, new)?;
+    let secrets = secret_changes(alloc, old.policy(), new.policy())?;
+    show(alloc, &changes, secrets.as_slice())
 }
 
 // What a policy whose text this is changes against the old one.
@@ -96,10 +114,7 @@ fn diff(
         output.0.items output.1) }
 {
     match judge(alloc, text)? {
-        Ok(new) => {
-            let changes = compare(alloc, old, &new)?;
-            show(alloc, &changes)
-        }
+        Ok(new) => differ(alloc, old, &new),
         Err(refusal) => refused_text(alloc, Input::Second, name, refusal),
     }
 }

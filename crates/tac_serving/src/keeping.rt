@@ -2,7 +2,7 @@
 
 use crate::operators::Operators;
 use crate::options::Options;
-use crate::server::{serve_console, serve_desk, watched};
+use crate::server::{serve_console, serve_desk, watch_of};
 use std::net::Net;
 use std::rt::Files;
 use std::sync::Wait;
@@ -10,10 +10,11 @@ use std::thread::Threads;
 use std::time::Clock;
 use tac_desks::LiveDesk;
 use tac_journal::{Journal, LogFiles};
-use tac_keep::{Complaint, KeepFiles, KeptDesk, KeptFile, KeptOutput, Place};
+use tac_keep::{Complaint, KeepFiles, KeepingWatch, KeptFile, KeptOutput, Place};
 use tac_net::{Listeners, ServeFault};
 use tac_operators::Exchange;
 use tac_start::Notices;
+use tac_watch::Watched;
 
 /// Serves with the operators of an exchange, until the console ends. Their edits are kept where
 /// that is asked for.
@@ -43,7 +44,9 @@ where
     };
     let uses = options.uses();
     let tray = &options.tray;
-    let desk = watched(host, options, KeptDesk::new(host.alloc(), tray, desk));
+    let keeping = KeepingWatch::new(host.alloc(), tray);
+    let watch = (keeping, watch_of(host, options, &desk));
+    let desk = Watched::new(desk, options.record_limit, watch);
     let store = KeptFile::new(host, &place, &uses);
     let complaint = Complaint::new(host, path);
     let notes = exchange.output(host, Notices::new(rt, host, aside));

@@ -24,14 +24,15 @@ use tac_desk::Desk;
 use tac_desks::LiveDesk;
 use tac_journal::{Journal, LogFiles, OneInput, Typists};
 use tac_keep::KeepFiles;
-use tac_net::{FillingDesk, Listeners, Port, ProxySocket, ServeFault, ServerFiles, serve};
+use tac_net::{Listeners, Port, ProxySocket, ServeFault, ServerFiles, serve};
 use tac_operators::ConsoleHost;
 use tac_run::Status;
 use tac_start::{
     Notices, SecretFile, ServingHost, first_file, journal_of, tell_of_edits, warn_of_few,
     warn_of_ipv6_alone,
 };
-use tac_status::CountedDesk;
+use tac_status::CountingWatch;
+use tac_watch::{FillingWatch, Watched};
 
 /// The rights of the socket that a proxy calls: its owner's, and those of its group, which is the
 /// proxy's where the folder is.
@@ -87,16 +88,15 @@ where
     Ok(Listeners::new(port, proxy))
 }
 
-/// A desk whose edits and records are counted. Standard error says when its records fill up.
-pub(crate) fn watched<'a, H: Eprint, D: Desk>(
+/// Who watches the desk of any server: what it has is counted, and standard error says when its
+/// records fill up.
+pub(crate) fn watch_of<'a, H: Eprint>(
     host: &'a H,
     options: &'a Options<'_>,
-    desk: D,
-) -> FillingDesk<'a, H, CountedDesk<'a, D>>
-    ensures { D.meaning result.desk.desk ≡ D.meaning desk }
-{
-    let desk = CountedDesk::new(desk, &options.counts.desk, options.record_limit);
-    FillingDesk::new(host, desk, options.record_limit)
+    desk: &LiveDesk,
+) -> (CountingWatch<'a>, FillingWatch<'a, H>) {
+    let counting = CountingWatch::new(&options.counts.desk, desk.policy());
+    (counting, FillingWatch::new(host))
 }
 
 // The devices' file that may be read again, if there is one.
@@ -166,7 +166,8 @@ where
     R: Files + Print + Eprint,
     H: Threads + Wait + Clock + Sync + AllocGlobal + Eprint + LogFiles + Net,
 {
-    let desk = watched(host, options, desk);
+    let watch = watch_of(host, options, &desk);
+    let desk = Watched::new(desk, options.record_limit, watch);
     serve_desk(rt, host, options, desk, journal, listeners, console)
 }
 

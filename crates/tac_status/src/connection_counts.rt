@@ -1,6 +1,9 @@
 //! Connections, by what became of them.
 
+ghost use Rattle.std.specs.Prelude.{◌≡◌};
+
 use crate::counts::Count;
+use std::array;
 
 /// Why a connection is closed as soon as it is accepted.
 #[derive(Clone, Copy, Debug, PartialEq, Eq)]
@@ -34,6 +37,8 @@ pub enum Departure {
     Finished,
     /// Its device was taken out of the devices' file before its first packet was whole.
     Unlisted,
+    /// Its device's block was changed before its first packet was whole: it may not come so any more.
+    Changed,
     /// The protocol closes it: after its last reply, or after what it refuses.
     Protocol,
     /// Its device had no reply for too long.
@@ -58,191 +63,172 @@ pub enum Departure {
     Server,
 }
 
-impl Rejection {
-    /// All of them, in the order in which they are told.
-    pub const ALL: [Rejection; 10] = [
-        Rejection::UnknownDevice,
-        Rejection::NoKey,
-        Rejection::NoTls,
-        Rejection::NoCertificate,
-        Rejection::OtherCertificate,
-        Rejection::BadProxyHeader,
-        Rejection::AtOnce,
-        Rejection::PerAddress,
-        Rejection::Served,
-        Rejection::Memory,
-    ];
+/// How many reasons there are to reject one.
+pub const REJECTION_COUNT: usize = 10;
 
-    /// How it is told.
-    pub fn name(self) -> &'static str {
-        match self {
-            Rejection::UnknownDevice => "unknown_device",
-            Rejection::NoKey => "no_key",
-            Rejection::NoTls => "no_tls",
-            Rejection::NoCertificate => "no_certificate",
-            Rejection::OtherCertificate => "other_certificate",
-            Rejection::BadProxyHeader => "bad_proxy_header",
-            Rejection::AtOnce => "at_once",
-            Rejection::PerAddress => "per_address",
-            Rejection::Served => "served",
-            Rejection::Memory => "memory",
-        }
-    }
+/// How many reasons there are for one to end.
+const DEPARTURE_COUNT: usize = 14;
 
+/// What is told of connections that are rejected for one reason.
+#[derive(Clone, Copy)]
+pub struct RejectionRow {
+    pub why: Rejection,
+    /// How `status` has it.
+    pub name: &'static str,
+    /// What standard error says of one, if it says anything.
+    pub complaint: Option<&'static str>,
     /// Whether it is told only of a server that knows of proxies: one that has a socket for them, or
     /// has closed a connection for such a reason.
-    pub fn is_of_proxies(self) -> bool {
-        match self {
-            Rejection::NoKey
-            | Rejection::NoTls
-            | Rejection::NoCertificate
-            | Rejection::OtherCertificate
-            | Rejection::BadProxyHeader => true,
-            Rejection::UnknownDevice
-            | Rejection::AtOnce
-            | Rejection::PerAddress
-            | Rejection::Served
-            | Rejection::Memory => false,
-        }
+    pub is_of_proxies: bool,
+}
+
+/// What is told of connections that have ended for one reason.
+#[derive(Clone, Copy)]
+pub struct DepartureRow {
+    pub why: Departure,
+    /// How `status` has it.
+    pub name: &'static str,
+}
+
+/// A row for each reason, in the order in which they are told.
+pub const REJECTIONS: [RejectionRow; REJECTION_COUNT] = [
+    RejectionRow {
+        why: Rejection::UnknownDevice,
+        name: "unknown_device",
+        complaint: Some("unknown device"),
+        is_of_proxies: false,
+    },
+    RejectionRow {
+        why: Rejection::NoKey,
+        name: "no_key",
+        complaint: Some("the device has no key"),
+        is_of_proxies: true,
+    },
+    RejectionRow {
+        why: Rejection::NoTls,
+        name: "no_tls",
+        complaint: Some("the device may not come by a proxy"),
+        is_of_proxies: true,
+    },
+    RejectionRow {
+        why: Rejection::NoCertificate,
+        name: "no_certificate",
+        complaint: Some("the proxy verified no certificate of the device"),
+        is_of_proxies: true,
+    },
+    RejectionRow {
+        why: Rejection::OtherCertificate,
+        name: "other_certificate",
+        complaint: Some("the device has a certificate of another name"),
+        is_of_proxies: true,
+    },
+    RejectionRow {
+        why: Rejection::BadProxyHeader,
+        name: "bad_proxy_header",
+        complaint: Some("bad proxy header"),
+        is_of_proxies: true,
+    },
+    RejectionRow {
+        why: Rejection::AtOnce,
+        name: "at_once",
+        complaint: None,
+        is_of_proxies: false,
+    },
+    RejectionRow {
+        why: Rejection::PerAddress,
+        name: "per_address",
+        complaint: None,
+        is_of_proxies: false,
+    },
+    RejectionRow {
+        why: Rejection::Served,
+        name: "served",
+        complaint: None,
+        is_of_proxies: false,
+    },
+    RejectionRow {
+        why: Rejection::Memory,
+        name: "memory",
+        complaint: None,
+        is_of_proxies: false,
+    },
+];
+
+/// A row for each reason, in the order in which they are told.
+pub const DEPARTURES: [DepartureRow; DEPARTURE_COUNT] = [
+    DepartureRow {
+        why: Departure::Finished,
+        name: "finished",
+    },
+    DepartureRow {
+        why: Departure::Unlisted,
+        name: "unlisted",
+    },
+    DepartureRow {
+        why: Departure::Changed,
+        name: "changed",
+    },
+    DepartureRow {
+        why: Departure::Protocol,
+        name: "protocol",
+    },
+    DepartureRow {
+        why: Departure::Idle,
+        name: "idle",
+    },
+    DepartureRow {
+        why: Departure::LoginIdle,
+        name: "login_idle",
+    },
+    DepartureRow {
+        why: Departure::NotTaken,
+        name: "not_taken",
+    },
+    DepartureRow {
+        why: Departure::PacketMemory,
+        name: "packet_memory",
+    },
+    DepartureRow {
+        why: Departure::Read,
+        name: "read",
+    },
+    DepartureRow {
+        why: Departure::Write,
+        name: "write",
+    },
+    DepartureRow {
+        why: Departure::Log,
+        name: "log",
+    },
+    DepartureRow {
+        why: Departure::Hashing,
+        name: "hashing",
+    },
+    DepartureRow {
+        why: Departure::Memory,
+        name: "memory",
+    },
+    DepartureRow {
+        why: Departure::Server,
+        name: "server",
+    },
+];
+
+impl Rejection {
+    /// What is told of it.
+    pub fn row(self) -> RejectionRow
+        ensures { result.why ≡ self }
+    {
+        REJECTIONS[self as usize]
     }
 }
 
 impl Departure {
-    /// All of them, in the order in which they are told.
-    pub const ALL: [Departure; 13] = [
-        Departure::Finished,
-        Departure::Unlisted,
-        Departure::Protocol,
-        Departure::Idle,
-        Departure::LoginIdle,
-        Departure::NotTaken,
-        Departure::PacketMemory,
-        Departure::Read,
-        Departure::Write,
-        Departure::Log,
-        Departure::Hashing,
-        Departure::Memory,
-        Departure::Server,
-    ];
-
-    /// How it is told.
-    pub fn name(self) -> &'static str {
-        match self {
-            Departure::Finished => "finished",
-            Departure::Unlisted => "unlisted",
-            Departure::Protocol => "protocol",
-            Departure::Idle => "idle",
-            Departure::LoginIdle => "login_idle",
-            Departure::NotTaken => "not_taken",
-            Departure::PacketMemory => "packet_memory",
-            Departure::Read => "read",
-            Departure::Write => "write",
-            Departure::Log => "log",
-            Departure::Hashing => "hashing",
-            Departure::Memory => "memory",
-            Departure::Server => "server",
-        }
-    }
-}
-
-#[derive(Drop)]
-struct Rejected {
-    unknown_device: Count,
-    no_key: Count,
-    no_tls: Count,
-    no_certificate: Count,
-    other_certificate: Count,
-    bad_proxy_header: Count,
-    at_once: Count,
-    per_address: Count,
-    served: Count,
-    memory: Count,
-}
-
-#[derive(Drop)]
-struct Ended {
-    finished: Count,
-    unlisted: Count,
-    protocol: Count,
-    idle: Count,
-    login_idle: Count,
-    not_taken: Count,
-    packet_memory: Count,
-    read: Count,
-    write: Count,
-    log: Count,
-    hashing: Count,
-    memory: Count,
-    server: Count,
-}
-
-impl Rejected {
-    fn new() -> Rejected {
-        Rejected {
-            unknown_device: Count::new(),
-            no_key: Count::new(),
-            no_tls: Count::new(),
-            no_certificate: Count::new(),
-            other_certificate: Count::new(),
-            bad_proxy_header: Count::new(),
-            at_once: Count::new(),
-            per_address: Count::new(),
-            served: Count::new(),
-            memory: Count::new(),
-        }
-    }
-
-    fn count(&self, why: Rejection) -> &Count {
-        match why {
-            Rejection::UnknownDevice => &self.unknown_device,
-            Rejection::NoKey => &self.no_key,
-            Rejection::NoTls => &self.no_tls,
-            Rejection::NoCertificate => &self.no_certificate,
-            Rejection::OtherCertificate => &self.other_certificate,
-            Rejection::BadProxyHeader => &self.bad_proxy_header,
-            Rejection::AtOnce => &self.at_once,
-            Rejection::PerAddress => &self.per_address,
-            Rejection::Served => &self.served,
-            Rejection::Memory => &self.memory,
-        }
-    }
-}
-
-impl Ended {
-    fn new() -> Ended {
-        Ended {
-            finished: Count::new(),
-            unlisted: Count::new(),
-            protocol: Count::new(),
-            idle: Count::new(),
-            login_idle: Count::new(),
-            not_taken: Count::new(),
-            packet_memory: Count::new(),
-            read: Count::new(),
-            write: Count::new(),
-            log: Count::new(),
-            hashing: Count::new(),
-            memory: Count::new(),
-            server: Count::new(),
-        }
-    }
-
-    fn count(&self, why: Departure) -> &Count {
-        match why {
-            Departure::Finished => &self.finished,
-            Departure::Unlisted => &self.unlisted,
-            Departure::Protocol => &self.protocol,
-            Departure::Idle => &self.idle,
-            Departure::LoginIdle => &self.login_idle,
-            Departure::NotTaken => &self.not_taken,
-            Departure::PacketMemory => &self.packet_memory,
-            Departure::Read => &self.read,
-            Departure::Write => &self.write,
-            Departure::Log => &self.log,
-            Departure::Hashing => &self.hashing,
-            Departure::Memory => &self.memory,
-            Departure::Server => &self.server,
-        }
+    /// What is told of it.
+    pub fn row(self) -> DepartureRow
+        ensures { result.why ≡ self }
+    {
+        DEPARTURES[self as usize]
     }
 }
 
@@ -251,8 +237,9 @@ impl Ended {
 pub struct ConnectionCounts {
     accepted: Count,
     open: Count,
-    rejected: Rejected,
-    ended: Ended,
+    // one count for each reason
+    rejected: [Count; REJECTION_COUNT],
+    ended: [Count; DEPARTURE_COUNT],
 }
 
 impl ConnectionCounts {
@@ -261,8 +248,8 @@ impl ConnectionCounts {
         ConnectionCounts {
             accepted: Count::new(),
             open: Count::new(),
-            rejected: Rejected::new(),
-            ended: Ended::new(),
+            rejected: array::from_fn(|_| Count::new()),
+            ended: array::from_fn(|_| Count::new()),
         }
     }
 
@@ -274,12 +261,12 @@ impl ConnectionCounts {
 
     /// One was closed as soon as it was accepted.
     pub fn reject(&self, why: Rejection) {
-        self.rejected.count(why).add(1);
+        self.rejected[why as usize].add(1);
     }
 
     /// One that was some worker's has ended.
     pub fn end(&self, why: Departure) {
-        self.ended.count(why).add(1);
+        self.ended[why as usize].add(1);
         self.open.take(1);
     }
 
@@ -295,11 +282,11 @@ impl ConnectionCounts {
 
     /// How many were closed so.
     pub fn rejected(&self, why: Rejection) -> u64 {
-        self.rejected.count(why).get()
+        self.rejected[why as usize].get()
     }
 
     /// How many have ended so.
     pub fn ended(&self, why: Departure) -> u64 {
-        self.ended.count(why).get()
+        self.ended[why as usize].get()
     }
 }

@@ -2,15 +2,17 @@
 #![tactic(auto)]
 
 mod connection_counts;
-mod counted_desk;
+mod counting_watch;
 mod counts;
 mod desk_counts;
 mod lines;
 mod present;
 mod request_counts;
 
-pub use connection_counts::{ConnectionCounts, Departure, Rejection};
-pub use counted_desk::CountedDesk;
+pub use connection_counts::{
+    ConnectionCounts, Departure, DepartureRow, REJECTION_COUNT, Rejection, RejectionRow,
+};
+pub use counting_watch::CountingWatch;
 pub use counts::Counts;
 pub use desk_counts::DeskCounts;
 pub use lines::status_text;

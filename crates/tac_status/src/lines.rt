@@ -1,6 +1,6 @@
 //! The lines that tell how a server is, in the text format that Prometheus reads.
 
-use crate::connection_counts::{ConnectionCounts, Departure, Rejection};
+use crate::connection_counts::{ConnectionCounts, DEPARTURES, REJECTIONS};
 use crate::counts::Counts;
 use crate::desk_counts::DeskCounts;
 use crate::present::Present;
@@ -74,8 +74,8 @@ fn write_server(out: &mut Vec<u8>, present: &Present) -> io::Result<()> {
 
 // Whether one was closed for a reason that is told only of a server that knows of proxies.
 fn has_met_proxies(counts: &ConnectionCounts) -> bool {
-    for rejection in Rejection::ALL {
-        if rejection.is_of_proxies() && counts.rejected(rejection) > 0 {
+    for row in REJECTIONS {
+        if row.is_of_proxies && counts.rejected(row.why) > 0 {
             return true;
         }
     }
@@ -95,9 +95,9 @@ fn write_rejected(
         "Connections closed as soon as they came.",
     )?;
     let knows_of_proxies = present.has_proxy || has_met_proxies(counts);
-    for rejection in Rejection::ALL {
-        if knows_of_proxies || !rejection.is_of_proxies() {
-            let (why, number) = (rejection.name(), counts.rejected(rejection));
+    for row in REJECTIONS {
+        if knows_of_proxies || !row.is_of_proxies {
+            let (why, number) = (row.name, counts.rejected(row.why));
             writeln!(out, "{name}{{why=\"{why}\"}} {number}")?;
         }
     }
@@ -112,8 +112,8 @@ fn write_ended(out: &mut Vec<u8>, counts: &ConnectionCounts) -> io::Result<()> {
         name,
         "Connections that were served and have ended.",
     )?;
-    for departure in Departure::ALL {
-        let (why, number) = (departure.name(), counts.ended(departure));
+    for row in DEPARTURES {
+        let (why, number) = (row.name, counts.ended(row.why));
         writeln!(out, "{name}{{why=\"{why}\"}} {number}")?;
     }
     Ok(())
@@ -267,8 +267,8 @@ fn write_status(out: &mut Vec<u8>, counts: &Counts, present: &Present) -> io::Re
 }
 
 /// The lines that tell how a server is. All are there, in this order, whatever their numbers are,
-/// but for the refusals of `Rejection::is_of_proxies`: these are there where the server has a
-/// socket for a proxy, or one of their numbers isn't 0. The error means that memory ran out.
+/// but for the refusals of proxies: these are there where the server has a socket for a proxy, or
+/// one of their numbers isn't 0. The error means that memory ran out.
 pub fn status_text(alloc: Global, counts: &Counts, present: &Present) -> io::Result<Vec<u8>> {
     let mut text = Vec::new(alloc);
     write_status(&mut text, counts, present)?;

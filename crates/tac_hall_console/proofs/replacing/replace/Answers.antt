@@ -31,10 +31,10 @@ returns-in-Ok-call-clause-ok g c =
     let some : policy_in c.in-Ok.receipt.answer ≡ Some c.in-Some.present.now = sym (rw c.in-Some.is at c.policy_in.ensures) in
     let stays : shuts_out (turnover c.in-Some.present.now c.args.policy) ≡ false = rw c.between-between.ensures at (sym c.if-shuts_out.ensures) in
     tells_ok (Replaces g.J.Run.opening c.args.seat.now c.args.policy)
-    (loaded (turnover c.in-Some.present.now c.args.policy) (made_of policy_question c.in-Ok.receipt) (made_of (calls.Load c.args.policy) c.in-Ok-call.receipt))
+    (loaded c.in-Some.present.now (made_of policy_question c.in-Ok.receipt) (made_of (calls.Load c.args.policy) c.in-Ok-call.receipt))
     c.call-2.new.seat c.args.out.now.items c.write_load.new.out.items c.write_load.result
     (called g.J.Run.opening c.args.seat.now c.args.policy c.in-Ok.receipt c.call.new.seat c.in-Ok.ensures.made c.in-Some.present.now some c.in-Ok-call.receipt c.call-2.new.seat stays c.in-Ok-call.ensures.made)
-    (rw c.between-between.ensures at c.write_load.ensures)
+    c.write_load.ensures
 
 pub returns-clause-ok : goal.returns-clause-ok
 returns-clause-ok g c =
@@ -67,7 +67,7 @@ pub returns-in-Ok-call-clause-err : goal.returns-in-Ok-call-clause-err
 returns-in-Ok-call-clause-err g c =
     let some : policy_in c.in-Ok.receipt.answer ≡ Some c.in-Some.present.now = sym (rw c.in-Some.is at c.policy_in.ensures) in
     let stays : shuts_out (turnover c.in-Some.present.now c.args.policy) ≡ false = rw c.between-between.ensures at (sym c.if-shuts_out.ensures) in
-    tells_err (Replaces g.J.Run.opening c.args.seat.now c.args.policy) (loaded (turnover c.in-Some.present.now c.args.policy) (made_of policy_question c.in-Ok.receipt) (made_of (calls.Load c.args.policy) c.in-Ok-call.receipt)) c.args.seat.now c.call-2.new.seat c.write_load.result
+    tells_err (Replaces g.J.Run.opening c.args.seat.now c.args.policy) (loaded c.in-Some.present.now (made_of policy_question c.in-Ok.receipt) (made_of (calls.Load c.args.policy) c.in-Ok-call.receipt)) c.args.seat.now c.call-2.new.seat c.write_load.result
     (called g.J.Run.opening c.args.seat.now c.args.policy c.in-Ok.receipt c.call.new.seat c.in-Ok.ensures.made c.in-Some.present.now some c.in-Ok-call.receipt c.call-2.new.seat stays c.in-Ok-call.ensures.made)
 
 pub returns-clause-err : goal.returns-clause-err

@@ -1,6 +1,6 @@
 use Rattle.tac_net.proofs.CallerFacts.{may_call}
 use Rattle.tac_net.proofs.worker.terms_of.Goals as goal
 
-pub returns-clause-some : goal.returns-clause-some
-returns-clause-some g c =
-    rw c.terms_by.ensures (may_call _ _ _ _ _ _ (rw c.ip.ensures at c.in-Ok.ensures.found) c.caller-named.ensures)
+pub returns-in-Ok-clause-may : goal.returns-in-Ok-clause-may
+returns-in-Ok-clause-may g c =
+    rw c.terms_by.ensures (may_call _ _ _ _ _ _ c.in-Ok.ensures.found c.caller-named.ensures)

@@ -3,17 +3,16 @@ use Rattle.tac_review.specs.Judged.{refusal_line}
 use Rattle.tac_review.specs.Review.{DiffsTo, named}
 use Rattle.tac_review.specs.declared.task.Input.TheVariants.{Second}
 use Rattle.tac_review.specs.declared.task.ReviewEnd.TheVariants.{BadPolicy}
-use Rattle.tac_review.proofs.OnlyFacts.{ok_so, equal_only, judged_only, changes_only}
+use Rattle.tac_review.proofs.OnlyFacts.{ok_so, equal_only, judged_only}
 use Rattle.tac_review.proofs.review_output.diff.Goals as goal
 
-pub returns-in_ok-changes-in-Ok : goal.returns-in_ok-changes-in-Ok
-returns-in_ok-changes-in-Ok c =
+pub returns-in-Ok : goal.returns-in-Ok
+returns-in-Ok c =
     let at = c.in_ok-new.ensures in
-    let compared = c.in_ok-changes-in-Ok in
-    ok_so c.show.result
-    (λ output shown. judged_only c.args.text.now (Ok c.in-Ok.new) (DiffsTo c.args.name.now c.args.old.now) output.0.items output.1 (rw c.in-Ok.is at at.found) (rw c.in-Ok.is at at.only)
-    (changes_only c.args.name.now c.args.old.now c.in-Ok.new compared.changes output.0.items output.1 compared.ensures.found compared.ensures.only shown.0 shown.1))
-    c.show.ensures
+    ok_so c.differ.result
+    (λ output only. judged_only c.args.text.now (Ok c.in-Ok.new) (DiffsTo c.args.name.now c.args.old.now) output.0.items output.1 (rw c.in-Ok.is at at.found) (rw c.in-Ok.is at at.only)
+    (record { wanted = only.wanted; only = only.only }))
+    c.differ.ensures
 
 pub returns-in-Err : goal.returns-in-Err
 returns-in-Err c =

@@ -1,6 +1,7 @@
-//! A desk that says when its records fill up.
+//! A desk that is watched.
 
 ghost use Rattle.std.specs.Prelude.{◌≡◌, ◌↔◌, false, Ok, Err, IsOk, IsTrue, IfOk, OnOk, OnErr};
+ghost use Rattle.std.specs.Prelude.{length};
 ghost use Rattle.pol_edit.specs.Applying.{is_memory};
 ghost use Rattle.pol_edit.specs.Batches.{ran_out};
 ghost use Rattle.pol_meaning.specs.Memory.{UnlessMemory};
@@ -10,9 +11,11 @@ ghost use Rattle.tac_desk.specs.Asking.{asked, takes_memory, Passes};
 ghost use Rattle.tac_desk.specs.Editing as editing;
 ghost use Rattle.tac_desk.specs.Reporting as reporting;
 ghost use Rattle.tac_desk.specs.declared.query.QueryFault.TheVariants.{NoSuch};
-ghost use Rattle.tac_net.specs.Filling as filling;
+ghost use Rattle.tac_watch.specs.Filling as filling;
+ghost use Rattle.tac_watch.specs.Watching as watching;
 
-use crate::gauge::{Fullness, Gauge};
+use crate::gauge::Gauge;
+use crate::watch::Watch;
 use pol_edit::{BatchFault, Edit, EditFault};
 use pol_meaning::Changes;
 use pol_text::Policy;
@@ -21,58 +24,52 @@ use tac_conn::{Answer, Ask, Hash};
 use tac_desk::{Desk, Query, QueryFault, Report, Shared, State};
 use tac_tally::RecordLimit;
 
-/// Another desk, which is asked and edited as that one is. Where its limit refuses records,
-/// standard error is told when nine tenths of it are stored, and when all is, once each. That is
-/// said during the call that stores the record, before it is answered: so the host is one whose
-/// standard error nobody waits for. What can't be said makes no difference.
+/// Another desk, which is asked and edited as that one is. Who watches it is told of each record
+/// that is stored, of each accepted edit or load with the policy that it makes, and of each question
+/// before it is answered: within the call, so that is the policy at this place of the history.
 #[derive(Drop)]
-pub struct FillingDesk<'a, R, D> {
-    rt: &'a R,
+pub struct Watched<D, W> {
     desk: D,
+    watch: W,
     gauge: Gauge,
 }
 
-impl<'a, R: Eprint, D: Desk> FillingDesk<'a, R, D> {
-    /// This desk, which has no records yet, and this limit to them.
-    pub fn new(rt: &'a R, desk: D, limit: RecordLimit) -> FillingDesk<'a, R, D>
+impl<D: Desk, W: Watch> Watched<D, W> {
+    /// This desk, which has no records yet, with this limit to them, and who watches it.
+    pub fn new(desk: D, limit: RecordLimit, watch: W) -> Watched<D, W>
         ensures desk { result.desk ≡ «desk» }
+        ensures watch { result.watch ≡ «watch» }
         ensures gauge { result.gauge ≡ filling.empty limit }
     {
-        FillingDesk {
-            rt,
+        Watched {
             desk,
+            watch,
             gauge: Gauge::new(limit),
         }
     }
 
-    // Says what is to say of how many records are stored.
-    fn tell(&self, fullness: Fullness) {
-        let stored = self.gauge.stored();
-        let most = self.gauge.most();
-        let _ = match fullness {
-            Fullness::NearlyFull => eprintln!(self.rt;
-                "tacd: {stored} of at most {most} records are stored; once all are, accounting is \
-                 answered 'records full'. --keep-records N keeps the latest instead"
-            ),
-            Fullness::Full => eprintln!(self.rt;
-                "tacd: all {stored} records are stored: accounting is answered 'records full' \
-                 until a restart. --keep-records N keeps the latest instead"
-            ),
-        };
-    }
-
-    // Counts a record that was stored.
+    // A record was stored.
     fn count(&mut self)
         ensures desk { self.new.desk ≡ self.old.desk }
         ensures gauge { self.new.gauge ≡ filling.counted self.old.gauge }
+        ensures seen { W.sees self.old.watch (watching.stored self.new.gauge) self.new.watch }
     {
-        if let Some(fullness) = self.gauge.count() {
-            self.tell(fullness);
-        }
+        self.gauge.count();
+        self.watch.stored(self.gauge);
+    }
+
+    // So many edits were made.
+    fn tell(&mut self, edits: usize)
+        ensures desk { self.new.desk ≡ self.old.desk }
+        ensures gauge { self.new.gauge ≡ self.old.gauge }
+        ensures seen { W.sees self.old.watch
+            (watching.edited (D.meaning self.old.desk).policy edits) self.new.watch }
+    {
+        self.watch.edited(self.desk.policy(), edits);
     }
 }
 
-impl<R: Eprint, D: Desk> Desk for FillingDesk<'_, R, D> {
+impl<D: Desk, W: Watch> Desk for Watched<D, W> {
     ghost meaning = { λ desk. D.meaning desk.desk };
 
     fn ask(&mut self, ask: &Ask) -> Result<Answer, AllocError>
@@ -85,8 +82,10 @@ impl<R: Eprint, D: Desk> Desk for FillingDesk<'_, R, D> {
         ensures sure { takes_memory (D.meaning self.old.desk) ask.now ≡ false → IsOk result }
         ensures err { OnErr result (D.meaning self.new.desk ≡ D.meaning self.old.desk) }
 
-        // A record that is answered as stored is counted, and nothing else is.
+        // A record that is answered as stored is counted and told, and nothing else is.
         ensures gauge { self.new.gauge ≡ filling.after result self.old.gauge }
+        ensures seen { watching.SeesAsk W.sees result self.new.gauge self.old.watch
+            self.new.watch }
     {
         let answered = self.desk.ask(ask);
         if let Ok(Answer::Stored) = &answered {
@@ -106,8 +105,17 @@ impl<R: Eprint, D: Desk> Desk for FillingDesk<'_, R, D> {
             edit.now result (D.meaning self.new.desk)) }
         ensures err { OnErr result (D.meaning self.new.desk ≡ D.meaning self.old.desk) }
         ensures gauge { self.new.gauge ≡ self.old.gauge }
+
+        // The policy with the edit is told, and of a refused one nothing is.
+        ensures seen { OnOk result (W.sees self.old.watch
+            (watching.edited (D.meaning self.new.desk).policy 1) self.new.watch) }
+        ensures refused { OnErr result (self.new.watch ≡ self.old.watch) }
     {
-        self.desk.edit(edit)
+        let edited = self.desk.edit(edit);
+        if edited.is_ok() {
+            self.tell(1);
+        }
+        edited
     }
 
     fn edit_all(&mut self, edits: &[Edit]) -> Result<Shared<Changes>, BatchFault>
@@ -117,8 +125,18 @@ impl<R: Eprint, D: Desk> Desk for FillingDesk<'_, R, D> {
             edits.now result (D.meaning self.new.desk)) }
         ensures err { OnErr result (D.meaning self.new.desk ≡ D.meaning self.old.desk) }
         ensures gauge { self.new.gauge ≡ self.old.gauge }
+
+        // The policy with all of the edits is told, and how many they are.
+        ensures seen { OnOk result (W.sees self.old.watch
+            (watching.edited (D.meaning self.new.desk).policy (length edits.now))
+            self.new.watch) }
+        ensures refused { OnErr result (self.new.watch ≡ self.old.watch) }
     {
-        self.desk.edit_all(edits)
+        let edited = self.desk.edit_all(edits);
+        if edited.is_ok() {
+            self.tell(edits.len());
+        }
+        edited
     }
 
     fn load(&mut self, policy: &Policy) -> Result<Shared<Changes>, EditFault>
@@ -129,8 +147,17 @@ impl<R: Eprint, D: Desk> Desk for FillingDesk<'_, R, D> {
             policy.now result (D.meaning self.new.desk)) }
         ensures err { OnErr result (D.meaning self.new.desk ≡ D.meaning self.old.desk) }
         ensures gauge { self.new.gauge ≡ self.old.gauge }
+
+        // That it was loaded is told, and not that it was edited.
+        ensures seen { OnOk result (W.sees self.old.watch
+            (watching.loaded (D.meaning self.new.desk).policy) self.new.watch) }
+        ensures refused { OnErr result (self.new.watch ≡ self.old.watch) }
     {
-        self.desk.load(policy)
+        let loaded = self.desk.load(policy);
+        if loaded.is_ok() {
+            self.watch.loaded(self.desk.policy());
+        }
+        loaded
     }
 
     fn query(&mut self, query: &Query) -> Result<Shared<Report>, QueryFault>
@@ -144,7 +171,12 @@ impl<R: Eprint, D: Desk> Desk for FillingDesk<'_, R, D> {
             result ≡ Err NoSuch }
         ensures after { D.meaning self.new.desk ≡ D.meaning self.old.desk }
         ensures gauge { self.new.gauge ≡ self.old.gauge }
+
+        // However it is answered, that it was asked is told.
+        ensures seen { W.sees self.old.watch
+            (watching.questioned (D.meaning self.old.desk).policy) self.new.watch }
     {
+        self.watch.questioned(self.desk.policy());
         self.desk.query(query)
     }
 

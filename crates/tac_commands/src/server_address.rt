@@ -10,7 +10,7 @@ const TACACS: u16 = 49;
 
 /// A host, by an address or a name, and a port.
 #[derive(Clone, Copy)]
-pub(crate) struct Place<'a> {
+pub(crate) struct ServerAddress<'a> {
     pub(crate) host: &'a str,
     pub(crate) port: u16,
 }
@@ -24,23 +24,23 @@ fn port_of(text: &str) -> Option<u16> {
     }
 }
 
-// The place of an address in brackets, of which the first was taken off.
-fn bracketed(text: &str) -> Option<Place<'_>> {
+// The address in brackets, of which the first was taken off.
+fn bracketed(text: &str) -> Option<ServerAddress<'_>> {
     let (host, rest) = text.split_once(']')?;
     if host.parse::<IpAddr>().is_err() {
         return None;
     }
     if rest.is_empty() {
-        return Some(Place { host, port: TACACS });
+        return Some(ServerAddress { host, port: TACACS });
     }
     let port = port_of(rest.strip_prefix(':')?)?;
-    Some(Place { host, port })
+    Some(ServerAddress { host, port })
 }
 
-/// The place that a text says: an address, or HOST, HOST:PORT, [ADDRESS] or [ADDRESS]:PORT.
-pub(crate) fn place_of(text: &str) -> Option<Place<'_>> {
+/// The address that a text says: an address, or HOST, HOST:PORT, [ADDRESS] or [ADDRESS]:PORT.
+pub(crate) fn address_of(text: &str) -> Option<ServerAddress<'_>> {
     if text.parse::<IpAddr>().is_ok() {
-        return Some(Place {
+        return Some(ServerAddress {
             host: text,
             port: TACACS,
         });
@@ -55,16 +55,20 @@ pub(crate) fn place_of(text: &str) -> Option<Place<'_>> {
     if host.is_empty() {
         return None;
     }
-    Some(Place { host, port })
+    Some(ServerAddress { host, port })
 }
 
-/// Calls the first of a place's addresses that takes the call until a moment.
-pub(crate) fn connect<H>(host: &H, place: Place<'_>, until: Duration) -> io::Result<TcpStream>
+/// Calls the first of a server's addresses that takes the call until a moment.
+pub(crate) fn connect<H>(
+    host: &H,
+    server: ServerAddress<'_>,
+    until: Duration,
+) -> io::Result<TcpStream>
 where
     H: Clock + Net<Listener = TcpListener, Stream = TcpStream>,
 {
     let mut last = io::Error::new(ErrorKind::NotFound, "this host has no address");
-    for address in (place.host, place.port).to_socket_addrs(host)? {
+    for address in (server.host, server.port).to_socket_addrs(host)? {
         let left = time_left(host, until)?;
         match TcpStream::connect_timeout(host, &address, left) {
             Ok(stream) => return Ok(stream),
