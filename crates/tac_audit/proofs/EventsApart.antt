@@ -9,16 +9,15 @@ use Rattle.std.proofs.lemmas.Bool.{and_parts, and_from}
 use Rattle.std.proofs.lemmas.Nat.{from_be_bytes-to_be_bytes_4}
 use Rattle.tac_request.specs.declared.record.AcctKind.{AcctKind}
 use Rattle.tac_request.specs.declared.record.AcctKind.TheVariants.{Begin, Stop, Watch, Update}
-use Rattle.tac_audit.specs.declared.event.Asker.{Asker}
+use Rattle.tac_conn.specs.declared.reading.Asker.{Asker}
 use Rattle.tac_audit.specs.declared.event.Status.{Status}
 use Rattle.tac_audit.specs.declared.event.Status.TheVariants as statuses
 use Rattle.tac_audit.specs.declared.event.Said.{Said}
 use Rattle.tac_audit.specs.declared.event.Why.{Why}
 use Rattle.tac_audit.specs.declared.event.Why.TheVariants as reasons
-use Rattle.tac_audit.specs.declared.event.Told.{Told}
-use Rattle.tac_audit.specs.declared.event.Told.TheVariants.{Login, Command, Account, Refused}
+use Rattle.tac_audit.specs.Told.{Told, Login, Command, Account, Refused}
 use Rattle.tac_audit.specs.declared.event.Origin.{Origin}
-use Rattle.tac_audit.specs.declared.event.Event.{Event}
+use Rattle.tac_audit.specs.Told.{Event}
 use Rattle.tac_audit.specs.declared.event.Typist.{Typist}
 use Rattle.tac_audit.specs.declared.event.Typist.TheVariants.{Anyone, Operator}
 use Rattle.tac_audit.specs.declared.event.Typed.{Typed}

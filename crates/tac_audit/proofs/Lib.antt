@@ -4,6 +4,4 @@ pub mod EventsApart
 pub mod TurnedAwayApart
 pub mod MaskingFacts
 pub mod AnswerFacts
-mod LoginFacts
-mod ReplyFacts
-pub mod NoticeFacts
+mod LineFacts

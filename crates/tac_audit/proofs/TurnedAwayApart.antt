@@ -8,7 +8,7 @@ use Rattle.std.proofs.lemmas.Bool.{and_parts}
 use Rattle.std.proofs.lemmas.Fmt.{decimal_injective}
 use Rattle.std.proofs.lemmas.List.{append_cancel_right}
 use Rattle.tac_audit.specs.declared.event.Origin.{Origin}
-use Rattle.tac_audit.specs.declared.event.Event.{Event}
+use Rattle.tac_audit.specs.Told.{Event}
 use Rattle.tac_audit.specs.declared.event.WhyTurnedAway.{WhyTurnedAway}
 use Rattle.tac_audit.specs.declared.event.WhyTurnedAway.TheVariants.{UnknownDevice, NoKey, NoTls, NoCertificate, OtherCertificate, BadProxyHeader, TooManyConnections}
 use Rattle.tac_audit.specs.declared.event.TurnedAway.{TurnedAway}

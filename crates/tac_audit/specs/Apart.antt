@@ -2,15 +2,14 @@
 use Rattle.std.specs.Prelude.{◌≡◌, ◌≢◌, ◌^◌, ℕ, List, Bool, true, ◌&&◌, nat_lt, IsTrue, Option}
 use Rattle.std.specs.List.{list_all}
 use Rattle.std.specs.Option.{option_map_or}
-use Rattle.tac_audit.specs.declared.event.Asker.{Asker}
+use Rattle.tac_conn.specs.declared.reading.Asker.{Asker}
 use Rattle.tac_audit.specs.declared.event.Said.{Said}
-use Rattle.tac_audit.specs.declared.event.Told.{Told}
-use Rattle.tac_audit.specs.declared.event.Told.TheVariants.{Login, Command, Account, Refused}
+use Rattle.tac_audit.specs.Told.{Told, Login, Command, Account, Refused}
 use Rattle.tac_audit.specs.declared.event.CameBy.{CameBy}
 use Rattle.tac_audit.specs.declared.event.CameBy.TheVariants.{Key, OldKey, Tls}
 use Rattle.tac_audit.specs.declared.event.Named.{Named}
 use Rattle.tac_audit.specs.declared.event.Origin.{Origin}
-use Rattle.tac_audit.specs.declared.event.Event.{Event}
+use Rattle.tac_audit.specs.Told.{Event}
 use Rattle.tac_audit.specs.declared.event.TurnedAway.{TurnedAway}
 use Rattle.tac_audit.specs.declared.event.Typist.{Typist}
 use Rattle.tac_audit.specs.declared.event.Typist.TheVariants.{Anyone, Operator}

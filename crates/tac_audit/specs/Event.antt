@@ -6,19 +6,18 @@ use Rattle.std.specs.Option.{option_map}
 use Rattle.std.specs.Fmt.{decimal}
 use Rattle.tac_request.specs.declared.record.AcctKind.{AcctKind}
 use Rattle.tac_request.specs.declared.record.AcctKind.TheVariants.{Begin, Stop, Watch, Update}
-use Rattle.tac_audit.specs.declared.event.Asker.{Asker}
+use Rattle.tac_conn.specs.declared.reading.Asker.{Asker}
 use Rattle.tac_audit.specs.declared.event.Status.{Status}
 use Rattle.tac_audit.specs.declared.event.Status.TheVariants as statuses
 use Rattle.tac_audit.specs.declared.event.Said.{Said}
 use Rattle.tac_audit.specs.declared.event.Why.{Why}
 use Rattle.tac_audit.specs.declared.event.Why.TheVariants as reasons
-use Rattle.tac_audit.specs.declared.event.Told.{Told}
-use Rattle.tac_audit.specs.declared.event.Told.TheVariants.{Login, Command, Account, Refused}
+use Rattle.tac_audit.specs.Told.{Told, Login, Command, Account, Refused}
 use Rattle.tac_audit.specs.declared.event.CameBy.{CameBy}
 use Rattle.tac_audit.specs.declared.event.CameBy.TheVariants.{Key, OldKey, Tls}
 use Rattle.tac_audit.specs.declared.event.Named.{Named}
 use Rattle.tac_audit.specs.declared.event.Origin.{Origin}
-use Rattle.tac_audit.specs.declared.event.Event.{Event}
+use Rattle.tac_audit.specs.Told.{Event}
 use Rattle.tac_audit.specs.declared.event.WhyTurnedAway.{WhyTurnedAway}
 use Rattle.tac_audit.specs.declared.event.WhyTurnedAway.TheVariants as refusals
 use Rattle.tac_audit.specs.declared.event.TurnedAway.{TurnedAway}

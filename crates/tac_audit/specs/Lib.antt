@@ -1,9 +1,9 @@
 pub mod Json
+pub mod Told
 pub mod Event
 pub mod Apart
 pub mod Telling
 pub mod Masking
 pub mod Witness
 pub mod Notices
-pub mod Logins
 pub mod Noted

@@ -9,24 +9,26 @@ use Rattle.tac_conn.specs.declared.outcome.Outcome.{Outcome}
 use Rattle.tac_conn.specs.declared.outcome.Outcome.TheVariants.{Question, Reply, Asks, Silent, Close}
 use Rattle.tac_conn.specs.declared.packet.Packet.{Packet}
 use Rattle.tac_conn.specs.declared.reply.Reply.{Reply as ReplyValue}
+use Rattle.tac_conn.specs.declared.reading.Received.{Received}
 use Rattle.tac_conn.specs.Packet.{clear}
+use Rattle.tac_conn.specs.Received.{received}
 use Rattle.tac_conn.specs.Reply.{answer_body}
 use Rattle.tac_conn.specs.Judging.{reply_in}
 use Rattle.tac_conn.specs.History.{outcome}
 use Rattle.tac_audit.specs.declared.notice.Notice.{Notice}
 use Rattle.tac_audit.specs.declared.notice.Notice.TheVariants as notices
 
--- of a packet that has this reply, and of one without a reply
-abbrev pub replied : Packet → ReplyValue → Notice
+-- of a packet that was read so and has this reply, and of one without a reply
+abbrev pub replied : Received → ReplyValue → Notice
 replied packet reply = notices.Packet packet (Some reply)
 
-abbrev pub unreplied : Packet → Notice
+abbrev pub unreplied : Received → Notice
 unreplied packet = notices.Packet packet None
 
 -- of a packet of this outcome, and of those after it by the answers that it leaves: an ask takes
 -- the next answer, and where none is left nothing more is told; nor is it once the connection
 -- closes
-abbrev pub notices_for : Packet → Outcome → List Answer → (List Answer → List Notice) → List Notice
+abbrev pub notices_for : Received → Outcome → List Answer → (List Answer → List Notice) → List Notice
 notices_for packet (Question reply session) answers later = replied packet reply ∷ later answers
 notices_for packet (Reply reply closes) answers later =
     replied packet reply ∷ (if closes then [] else later answers)
@@ -47,7 +49,7 @@ notices_at (fault refused) = notices.BadHeader refused.header ∷ []
 unfoldable pub notices_to : Door → List Packet → List Frame → Tail → List Answer → List Notice
 notices_to door earlier [] tail answers = notices_at tail
 notices_to door earlier (frame ∷ frames) tail answers =
-    notices_for (clear door frame) (outcome earlier (clear door frame)) answers
+    notices_for (received earlier (clear door frame)) (outcome earlier (clear door frame)) answers
     (λ left. notices_to door (clear door frame ∷ earlier) frames tail left)
 
 -- the replies of which it is told

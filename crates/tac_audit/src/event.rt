@@ -1,5 +1,5 @@
-//! What is told of a packet, of a line at the console, and of connections that were refused. No
-//! type here has room for a password, a challenge or a response.
+//! What is told of a reply, of a line at the console, and of connections that were refused. No type
+//! here has room for a password, a challenge or a response.
 
 ghost use Rattle.std.specs.Prelude.{◌≡◌, IfOk};
 
@@ -7,20 +7,6 @@ use basics::{Bytes, Sequence};
 use pol_names::Name;
 use std::alloc::{AllocError, Global};
 use tac_proxy::CommonName;
-use tac_request::AcctKind;
-
-/// Who asks, and from where: what a request says of itself.
-#[derive(Debug, Drop)]
-pub struct Asker {
-    pub user: Bytes,
-    pub port: Bytes,
-    /// The field rem_addr.
-    pub from: Bytes,
-    /// The field priv_lvl.
-    pub privilege: u8,
-    /// The field authen_service.
-    pub service: u8,
-}
 
 /// The status of a last reply (RFC 8907, sections 5.2, 6.2 and 7.2).
 #[derive(Clone, Copy, Debug, PartialEq, Eq)]
@@ -55,57 +41,6 @@ pub enum Why {
     Aborted,
     /// Its header is refused, and nothing is read after it.
     BadHeader,
-}
-
-/// What is told of a packet.
-#[derive(Debug)]
-pub enum Told {
-    /// The last reply of a login.
-    Login {
-        asker: Asker,
-        said: Said,
-    },
-    /// A command. The line is None where the arguments make none.
-    Command {
-        asker: Asker,
-        arguments: Sequence<Bytes>,
-        line: Option<Bytes>,
-        said: Said,
-    },
-    /// An accounting record. The kind is None where the flags mean none.
-    Account {
-        asker: Asker,
-        kind: Option<AcctKind>,
-        task: Bytes,
-        arguments: Sequence<Bytes>,
-        said: Said,
-    },
-    Refused {
-        why: Why,
-    },
-}
-
-// By hand, so that a proof of an owner has one call at each exit, not a drop of each field.
-impl Drop for Told {
-    fn drop(self) {
-        match self {
-            Told::Login { asker: _, said: _ } => {}
-            Told::Command {
-                asker: _,
-                arguments: _,
-                line: _,
-                said: _,
-            } => {}
-            Told::Account {
-                asker: _,
-                kind: _,
-                task: _,
-                arguments: _,
-                said: _,
-            } => {}
-            Told::Refused { why: _ } => {}
-        }
-    }
 }
 
 /// How a device came.
@@ -145,16 +80,6 @@ impl Origin {
             named: self.named,
         })
     }
-}
-
-/// What is told of a packet, when its line was made, and on which session of which device.
-#[derive(Debug, Drop)]
-pub struct Event {
-    /// By RFC 3339, where it is told.
-    pub time: Option<Bytes>,
-    pub origin: Origin,
-    pub session: u32,
-    pub told: Told,
 }
 
 /// Why a connection is refused: it is closed before a packet of it is read.

@@ -5,21 +5,15 @@
 mod event;
 mod json;
 mod line;
-mod logins;
 mod masking;
 mod notice;
 mod telling;
 mod typing;
 mod witness;
 
-pub use event::{
-    Asker, CameBy, Event, Named, Origin, Said, Status, Told, TurnedAway, Typed, Typist, Why,
-    WhyTurnedAway,
-};
-pub use line::{push_event, turned_away_line, typed_line};
-pub use logins::{Logins, Noted};
+pub use event::{CameBy, Named, Origin, TurnedAway, Typed, Typist, WhyTurnedAway};
+pub use line::{push_line, turned_away_line, typed_line};
 pub use masking::{masked, masked_answer};
 pub use notice::{Notice, Typing};
-pub use telling::{Answered, OpenLogin, answered_of, login_begun, login_named, tell};
 pub use typing::typed;
 pub use witness::{Nobody, Refused, Witness};

@@ -1,24 +1,35 @@
 //! The lines that are written of events, of what is typed, and of connections that were refused.
 
-ghost use Rattle.std.specs.Prelude.{◌≡◌, ◌++◌, IfOk, OnOk};
+ghost use Rattle.std.specs.Prelude.{◌≡◌, ◌++◌, List, ℕ, Option, Some, is_some, IfOk, OnOk};
 ghost use Rattle.std.specs.Option.{option_copied, option_map};
 ghost use Rattle.tac_audit.specs.Json as json;
 ghost use Rattle.tac_audit.specs.Event as lines;
 ghost use Rattle.tac_audit.specs.Apart.{AreApart, AreTypedApart, AreTurnedAwayApart, IsOther};
-ghost use Rattle.tac_audit.specs.declared.event.Told.TheVariants as told;
-ghost use Rattle.tac_audit.specs.declared.event.Event.{Event as EventValue};
+ghost use Rattle.tac_authen.specs.declared.start.Start.{Start as StartValue};
+ghost use Rattle.tac_authen.specs.declared.continuation.Continue.{Continue as ContinueValue};
+ghost use Rattle.tac_conn.specs.declared.reading.Asker.{Asker as AskerValue};
+ghost use Rattle.tac_conn.specs.declared.reading.Reading.TheVariants as readings;
+ghost use Rattle.tac_conn.specs.Reading.{start_as, answer_as};
+ghost use Rattle.tac_audit.specs.Noted.{noted, noted_of, bad_header, AddsTold, AddsLine};
+ghost use Rattle.tac_audit.specs.Telling.{told_as};
+ghost use Rattle.tac_audit.specs.Told as told;
+ghost use Rattle.tac_audit.specs.Told.{Event as EventValue};
+ghost use Rattle.tac_audit.specs.declared.event.Said.{Said as SaidValue};
 ghost use Rattle.tac_audit.specs.declared.event.Typed.{Typed as TypedValue};
 ghost use Rattle.tac_audit.specs.declared.event.TurnedAway.{TurnedAway as TurnedAwayValue};
 
 use crate::event::{
-    Asker, CameBy, Event, Named, Origin, Said, Status, Told, TurnedAway, Typed, Typist, Why,
-    WhyTurnedAway,
+    CameBy, Named, Origin, Said, Status, TurnedAway, Typed, Typist, Why, WhyTurnedAway,
 };
 use crate::json::{hex_digit, write_list, write_member, write_number, write_optional, write_text};
+use crate::notice::Notice;
+use crate::telling::said_in;
 use basics::Bytes;
 use std::alloc::{AllocError, Global};
 use std::io;
+use tac_conn::{Asker, Reading, Received};
 use tac_request::AcctKind;
+use tac_wire::Header;
 
 // ---- words
 
@@ -227,28 +238,88 @@ fn write_account(
     write_said(out, said)
 }
 
-#[tactic(auto, unfolding(crate::specs::Event::type_json))]
-fn write_told(out: &mut Vec<u8>, told: &Told) -> io::Result<()>
-    ensures { OnOk result (out.new.items ≡ out.old.items ++ lines.told_json told.now) }
+fn write_login(out: &mut Vec<u8>, asker: &Asker, said: &Said) -> io::Result<()>
+    ensures { OnOk result
+        (out.new.items ≡ out.old.items ++ lines.told_json (told.Login asker.now said.now)) }
 {
-    match told {
-        Told::Login { asker, said } => {
-            write_request(out, b"login", asker)?;
-            write_said(out, said)
-        }
-        Told::Command {
+    write_request(out, b"login", asker)?;
+    write_said(out, said)
+}
+
+#[tactic(auto, unfolding(crate::specs::Event::type_json))]
+fn write_refused(out: &mut Vec<u8>, why: Why) -> io::Result<()>
+    ensures { OnOk result (out.new.items ≡ out.old.items ++ lines.told_json (told.Refused why)) }
+{
+    write_member(out, b"type", b"refused")?;
+    write_member(out, b"why", why_word(why))?;
+    Ok(())
+}
+
+// What is told of a command, where its reply is a last one.
+fn write_if_command(
+    out: &mut Vec<u8>,
+    asker: &Asker,
+    arguments: &[Bytes],
+    line: &Option<Bytes>,
+    said: &Option<Said>,
+) -> io::Result<()>
+    ensures { OnOk result (AddsTold out.old.items out.new.items
+        (told_as (readings.Command asker.now arguments.now line.now) said.now)) }
+{
+    match said {
+        Some(said) => write_command(out, asker, arguments, line, said),
+        None => Ok(()),
+    }
+}
+
+// What is told of a record, where its reply is a last one.
+fn write_if_account(
+    out: &mut Vec<u8>,
+    asker: &Asker,
+    kind: Option<AcctKind>,
+    task: &[u8],
+    arguments: &[Bytes],
+    said: &Option<Said>,
+) -> io::Result<()>
+    ensures { OnOk result (AddsTold out.old.items out.new.items
+        (told_as (readings.Account asker.now kind task.now arguments.now) said.now)) }
+{
+    match said {
+        Some(said) => write_account(out, asker, kind, task, arguments, said),
+        None => Ok(()),
+    }
+}
+
+// What is told of a login, where its reply is a last one.
+fn write_if_login(out: &mut Vec<u8>, asker: &Asker, said: &Option<Said>) -> io::Result<()>
+    ensures { OnOk result (AddsTold out.old.items out.new.items
+        (told_as (readings.Login asker.now) said.now)) }
+{
+    match said {
+        Some(said) => write_login(out, asker, said),
+        None => Ok(()),
+    }
+}
+
+// What is told of a packet that was read so, by what its last reply says.
+fn write_told(out: &mut Vec<u8>, reading: &Reading, said: &Option<Said>) -> io::Result<()>
+    ensures { OnOk result
+        (AddsTold out.old.items out.new.items (told_as reading.now said.now)) }
+{
+    match reading {
+        Reading::GoesOn => Ok(()),
+        Reading::Login(asker) => write_if_login(out, asker, said),
+        Reading::Command {
             asker,
             arguments,
             line,
-            said,
-        } => write_command(out, asker, arguments.as_slice(), line, said),
-        Told::Account {
+        } => write_if_command(out, asker, arguments.as_slice(), line, said),
+        Reading::Account {
             asker,
             kind,
             task,
             arguments,
-            said,
-        } => write_account(
+        } => write_if_account(
             out,
             asker,
             *kind,
@@ -256,11 +327,21 @@ fn write_told(out: &mut Vec<u8>, told: &Told) -> io::Result<()>
             arguments.as_slice(),
             said,
         ),
-        Told::Refused { why } => {
-            write_member(out, b"type", b"refused")?;
-            write_member(out, b"why", why_word(*why))?;
-            Ok(())
-        }
+        Reading::BadBody => write_refused(out, Why::BadBody),
+        Reading::Unserved => write_refused(out, Why::UnservedType),
+        Reading::OutOfTurn => write_refused(out, Why::OutOfTurn),
+        Reading::Aborted => write_refused(out, Why::Aborted),
+    }
+}
+
+// Whether anything is told of it.
+fn is_told(reading: &Reading, said: &Option<Said>) -> bool
+    ensures { result ≡ is_some (told_as reading.now said.now) }
+{
+    match reading {
+        Reading::GoesOn => false,
+        Reading::Login(_) | Reading::Command { .. } | Reading::Account { .. } => said.is_some(),
+        _ => true,
     }
 }
 
@@ -286,41 +367,118 @@ fn write_ended(out: &mut Vec<u8>) -> Result<(), AllocError>
 }
 
 // When, on which session of which device.
-fn write_head(out: &mut Vec<u8>, event: &Event) -> Result<(), AllocError>
+fn write_head(
+    out: &mut Vec<u8>,
+    time: Option<&Bytes>,
+    origin: &Origin,
+    session: u32,
+) -> Result<(), AllocError>
     ensures { OnOk result (out.new.items ≡ out.old.items
-        ++ (lines.begun event.now.time ++ lines.origin_json event.now.origin
-        ++ json.member SESSION.now (json.text_json (lines.session_digits event.now.session)))) }
+        ++ (lines.begun (option_copied time.entry) ++ lines.origin_json origin.now
+        ++ json.member SESSION.now (json.text_json (lines.session_digits session)))) }
 {
-    write_begun(out, event.time.as_ref())?;
-    write_origin(out, &event.origin)?;
-    write_member(out, SESSION, &session_digits(event.session))
+    write_begun(out, time)?;
+    write_origin(out, origin)?;
+    write_member(out, SESSION, &session_digits(session))
 }
 
 const SESSION: &[u8] = b"session";
 
-fn write_event(out: &mut Vec<u8>, event: &Event) -> io::Result<()>
-    ensures { OnOk result (out.new.items ≡ out.old.items ++ lines.line_of event.now) }
+// The line of a header that is refused.
+fn write_bad_header(
+    out: &mut Vec<u8>,
+    time: Option<&Bytes>,
+    origin: &Origin,
+    header: &Header,
+) -> io::Result<()>
+    ensures { OnOk result (AddsLine (option_copied time.entry) origin.now
+        out.old.items out.new.items (Some (bad_header header.now))) }
 {
-    write_head(out, event)?;
-    write_told(out, &event.told)?;
+    write_head(out, time, origin, header.session)?;
+    write_refused(out, Why::BadHeader)?;
     write_ended(out)?;
     Ok(())
+}
+
+// The line of a packet whose last reply says so, and whether it has one.
+#[tactic(auto, using(crate::proofs::LineFacts::none_told, crate::proofs::LineFacts::head_told_end))]
+fn write_packet(
+    out: &mut Vec<u8>,
+    time: Option<&Bytes>,
+    origin: &Origin,
+    received: &Received,
+    said: &Option<Said>,
+) -> io::Result<bool>
+    ensures told { IfOk result (λ has. has ≡ is_some (told_as received.now.reading said.now)) }
+    ensures line { OnOk result (AddsLine (option_copied time.entry) origin.now
+        out.old.items out.new.items
+        (noted received.now.session (told_as received.now.reading said.now))) }
+{
+    if !is_told(&received.reading, said) {
+        return Ok(false);
+    }
+    write_head(out, time, origin, received.session)?;
+    write_told(out, &received.reading, said)?;
+    write_ended(out)?;
+    Ok(true)
+}
+
+// The line of a notice, and whether it has one.
+fn write_notice(
+    alloc: Global,
+    out: &mut Vec<u8>,
+    time: Option<&Bytes>,
+    origin: &Origin,
+    notice: &Notice,
+) -> io::Result<bool>
+    ensures told { IfOk result (λ has. has ≡ is_some (noted_of notice.now)) }
+    ensures line { OnOk result (AddsLine (option_copied time.entry) origin.now
+        out.old.items out.new.items (noted_of notice.now)) }
+{
+    match notice {
+        Notice::Packet(received, reply) => {
+            let said = said_in(alloc, reply.as_ref())?;
+            write_packet(out, time, origin, received, &said)
+        }
+        Notice::BadHeader(header) => {
+            write_bad_header(out, time, origin, header)?;
+            Ok(true)
+        }
+    }
 }
 
 // What most lines have room in.
 const ROOM: usize = 512;
 
-/// Adds the line of an event, with its LF: one JSON object (RFC 8259). The error means that memory
-/// ran out, and then a part of the line may have been added. Linear in what is told.
+/// Adds the line of a notice of this origin, with its LF: one JSON object (RFC 8259). Nothing is
+/// told, and nothing added, while a login goes on. Answers whether there is a line. The error means
+/// that memory ran out, and then a part of the line may have been added. Linear in what is told.
 #[tactic(auto, using(crate::proofs::EventsApart::events_apart))]
-pub fn push_event(out: &mut Vec<u8>, event: &Event) -> Result<(), AllocError>
-    ensures line { OnOk result (out.new.items ≡ out.old.items ++ lines.line_of event.now) }
+pub fn push_line(
+    alloc: Global,
+    out: &mut Vec<u8>,
+    time: Option<&Bytes>,
+    origin: &Origin,
+    notice: &Notice,
+) -> Result<bool, AllocError>
+    ensures told { IfOk result (λ has. has ≡ is_some (noted_of notice.now)) }
+    ensures line { OnOk result (AddsLine (option_copied time.entry) origin.now
+        out.old.items out.new.items (noted_of notice.now)) }
     // What is told is read back from the line: events with the same line are the same.
     ensures apart { (a b : EventValue) → AreApart a b }
+
+    // Neither the data of a START nor what was typed in a login is told.
+    ensures unsaid { (start : StartValue) (secret : List ℕ) (said : Option SaidValue) →
+        told_as (start_as (Some (record start { extra = secret }))) said
+        ≡ told_as (start_as (Some start)) said }
+    ensures untyped { (asker : AskerValue) (answer : ContinueValue) (typed extra : List ℕ)
+        (said : Option SaidValue) →
+        told_as (answer_as asker (record answer { user_msg = typed; extra = extra })) said
+        ≡ told_as (answer_as asker answer) said }
 {
     out.reserve(ROOM)?;
-    match write_event(out, event) {
-        Ok(()) => Ok(()),
+    match write_notice(alloc, out, time, origin, notice) {
+        Ok(is_told) => Ok(is_told),
         Err(_) => Err(AllocError),
     }
 }

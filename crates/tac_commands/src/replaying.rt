@@ -6,10 +6,9 @@
 use basics::{Bytes, send};
 use clap::ArgMatches;
 use std::alloc::Global;
-use std::collections::BTreeMap;
 use std::fs::File;
 use std::io;
-use tac_audit::{Event, Logins, Notice, Origin, Refused, Witness, push_event};
+use tac_audit::{Notice, Origin, Refused, Witness, push_line};
 use tac_command_line::{LOG, TIME};
 use tac_journal::LogFiles;
 use tac_run::Status;
@@ -22,8 +21,6 @@ struct ScriptLog<'a> {
     alloc: Global,
     // what each line tells as its time
     time: Option<&'a str>,
-    // who logs in on each connection
-    connections: BTreeMap<u32, Logins>,
     lines: Vec<u8>,
     // whether there was memory for all lines
     is_whole: bool,
@@ -51,7 +48,6 @@ impl<'a> ScriptLog<'a> {
         ScriptLog {
             alloc,
             time,
-            connections: BTreeMap::new(alloc),
             lines: Vec::new(alloc),
             is_whole: true,
         }
@@ -59,28 +55,18 @@ impl<'a> ScriptLog<'a> {
 
     // Adds the line of a notice, if it has one.
     fn add(&mut self, number: u32, notice: &Notice) -> Result<(), Refused> {
-        let Some(logins) = self.connections.get_mut(&number) else {
+        if notice.goes_on() {
             return Ok(());
-        };
-        let Some(noted) = logins.note(self.alloc, notice)? else {
-            return Ok(());
-        };
-        let event = Event {
-            time: time_of(self.alloc, self.time)?,
-            origin: origin_of(self.alloc, number)?,
-            session: noted.session,
-            told: noted.told,
-        };
-        push_event(&mut self.lines, &event)?;
+        }
+        let time = time_of(self.alloc, self.time)?;
+        let origin = origin_of(self.alloc, number)?;
+        push_line(self.alloc, &mut self.lines, time.as_ref(), &origin, notice)?;
         Ok(())
     }
 
     fn take(&mut self, noticed: &Noticed) -> Result<(), Refused> {
         match noticed {
-            Noticed::Opened(number) => {
-                self.connections.insert(*number, Logins::new(self.alloc))?;
-                Ok(())
-            }
+            Noticed::Opened(_) => Ok(()),
             Noticed::On(number, notice) => self.add(*number, notice),
         }
     }

@@ -5,7 +5,6 @@ use Rattle.std.specs.Result.{result_ok}
 use Rattle.std.proofs.lemmas.Bool.{eqb-true, and_parts, false≢true}
 use Rattle.tac_wire.specs.Flag.{has_flag}
 use Rattle.tac_wire.specs.declared.body.BodyFault.{BodyFault}
-use Rattle.tac_authen.specs.declared.start.Service.{Service}
 use Rattle.tac_authen.specs.declared.start.Start.{Start}
 use Rattle.tac_authen.specs.Start.{start_of}
 use Rattle.tac_authen.specs.declared.continuation.Continue.{Continue}
@@ -32,10 +31,12 @@ use Rattle.tac_conn.specs.declared.outcome.Outcome.{Outcome}
 use Rattle.tac_conn.specs.declared.outcome.Outcome.TheVariants.{Question, Asks, Silent, Close}
 use Rattle.tac_conn.specs.declared.ask.Answer.{Answer}
 use Rattle.tac_conn.specs.Ask.{kind_of_ask}
-use Rattle.tac_conn.specs.History.{service_of, user_of, session_of}
+use Rattle.tac_conn.specs.declared.reading.Asker.{Asker}
+use Rattle.tac_conn.specs.Asker.{named}
+use Rattle.tac_conn.specs.History.{asker_of, session_of}
 use Rattle.tac_conn.specs.Standing.{step_of, session_left, HasItsSlot, GrantsNothing}
 use Rattle.tac_conn.specs.Reply.{IsReplyTo, is_success, bad_body, fail, authen_error, question_to, secret_question, refusal, acct_error}
-use Rattle.tac_conn.specs.Judging.{slot_for, reply_in, ends, breaks, unserved, max_sessions, session_begun, chap_proof, is_supported, start_outcome, start_read, session_named, name_outcome, typed_outcome, continue_outcome, continue_read, requested_outcome, request_read, record_outcome, acct_read, kind_of, is_in_turn, body_outcome, kind_outcome, judged, is_body, is_read, leaves_open, reply_of}
+use Rattle.tac_conn.specs.Judging.{slot_for, reply_in, ends, breaks, unserved, max_sessions, session_begun, given, chap_proof, is_supported, start_outcome, start_read, session_named, name_outcome, typed_outcome, continue_outcome, continue_read, requested_outcome, request_read, record_outcome, acct_read, kind_of, is_in_turn, body_outcome, kind_outcome, judged, is_body, is_read, leaves_open, reply_of}
 
 -- the outcome of a packet, on a connection that is single or isn't, by how many sessions are open,
 -- and its own, if it is
@@ -45,7 +46,7 @@ pub data ComesTo (single : Bool) (count : ℕ) (known : Option Session) (packet 
       → is_in_turn single count None Authentication packet.header ≡ true → nat_le max_sessions count ≡ false
       → ComesTo single count known packet (let slot = slot_for packet.header Authentication single in Question (reply_in slot (question_to start.user)) (session_begun slot start))
   -- a CONTINUE names the user
-  goes_on : (session : Session) (answer : Continue) → known ≡ Some session → session.user ≡ None → continue_of packet.body ≡ Ok answer
+  goes_on : (session : Session) (answer : Continue) → known ≡ Some session → given session.asker.user ≡ None → continue_of packet.body ≡ Ok answer
       → is_read single count known packet ≡ true → packet.header.seq ≡ session.last_seq + 1
       → ComesTo single count known packet (let slot = slot_for packet.header Authentication single in Question (reply_in slot secret_question) (session_named slot session answer.user_msg))
   ended : (kind : AskKind) (reply : ReplyBody) → is_success reply ≡ false → ComesTo single count known packet (ends (slot_for packet.header kind single) reply)
@@ -81,23 +82,23 @@ module _ (single : Bool) (count : ℕ) (packet : Packet) where
 
   -- ---- CONTINUE
 
-  named_comes : (session : Session) (answer : Continue) (typed : List ℕ) → answer.user_msg ≡ typed → session.user ≡ None → continue_of packet.body ≡ Ok answer
+  named_comes : (session : Session) (answer : Continue) (typed : List ℕ) → answer.user_msg ≡ typed → given session.asker.user ≡ None → continue_of packet.body ≡ Ok answer
       → is_read single count (Some session) packet ≡ true → packet.header.seq ≡ session.last_seq + 1 → Comes (Some session) (name_outcome (slot Authentication) session typed)
   named_comes session answer [] said e f read turn = ended Authentication fail refl
   named_comes session answer (byte ∷ name) said e f read turn =
       subst (λ (text : List ℕ). Comes (Some session) (Question (reply_in (slot Authentication) secret_question) (session_named (slot Authentication) session text))) said
       (goes_on session answer refl e f read turn)
 
-  typed_comes : (session : Session) (answer : Continue) (user : Option (List ℕ)) → session.user ≡ user → continue_of packet.body ≡ Ok answer
+  typed_comes : (session : Session) (answer : Continue) (user : Option (List ℕ)) → given session.asker.user ≡ user → continue_of packet.body ≡ Ok answer
       → is_read single count (Some session) packet ≡ true → packet.header.seq ≡ session.last_seq + 1 → Comes (Some session) (typed_outcome (slot Authentication) session user answer.user_msg)
   typed_comes session answer None e f read turn = named_comes session answer answer.user_msg refl e f read turn
-  typed_comes session answer (Some user) e f read turn = asked (Authenticate user session.service (Plain answer.user_msg))
+  typed_comes session answer (Some user) e f read turn = asked (Authenticate user (record { 0 = session.asker.service }) (Plain answer.user_msg))
 
   answer_comes : (session : Session) (answer : Continue) → continue_of packet.body ≡ Ok answer
       → is_read single count (Some session) packet ≡ true → packet.header.seq ≡ session.last_seq + 1 → Comes (Some session) (continue_outcome (slot Authentication) session answer)
   answer_comes session answer f read turn =
       by_test (Some session) (has_flag 0x01 answer.flags) _ _ (λ h. by_test (Some session) single Silent Close (λ s. silent) (λ s. shut))
-      (λ h. typed_comes session answer session.user refl f read turn)
+      (λ h. typed_comes session answer (given session.asker.user) refl f read turn)
 
   -- ---- requests
 
@@ -109,7 +110,7 @@ module _ (single : Bool) (count : ℕ) (packet : Packet) where
 
   record_comes : (request : AcctRequest) (kind : Option AcctKind) → Comes None (record_outcome (slot Accounting) request kind)
   record_comes request None = ended Accounting (acct_error (codes "bad flags")) refl
-  record_comes request (Some kind) = asked (Account (record_of request kind))
+  record_comes request (Some kind) = asked (Account (record_of request.user request.args kind))
 
   -- ---- a body
 
@@ -257,30 +258,28 @@ no_session : (id : ℕ) (trail : List Packet) → session_of id trail ≡ None �
 no_session id [] e = refl
 no_session id (packet ∷ earlier) e = absurd cc
 
-same_session : (a b : Session) → a.id ≡ b.id → a.last_seq ≡ b.last_seq → a.service ≡ b.service → a.user ≡ b.user → a ≡ b
-same_session a b e f g h =
-    let made : ℕ → ℕ → Service → Option (List ℕ) → Session = λ id last_seq service user. record { id = id; last_seq = last_seq; service = service; user = user } in
-    ap (λ (x : ℕ). made x a.last_seq a.service a.user) e ∙ ap (λ (x : ℕ). made b.id x a.service a.user) f
-    ∙ ap (λ (x : Service). made b.id b.last_seq x a.user) g ∙ ap (made b.id b.last_seq b.service) h
+same_session : (a b : Session) → a.id ≡ b.id → a.last_seq ≡ b.last_seq → a.asker ≡ b.asker → a ≡ b
+same_session a b e f g =
+    let made : ℕ → ℕ → Asker → Session = λ id last_seq asker. record { id = id; last_seq = last_seq; asker = asker } in
+    ap (λ (x : ℕ). made x a.last_seq a.asker) e ∙ ap (λ (x : ℕ). made b.id x a.asker) f ∙ ap (made b.id b.last_seq) g
 
 module _ (single : Bool) (count id : ℕ) (packet : Packet) (own : packet.header.session ≡ id) where
   begun_is : (start : Start) → start_of packet.body ≡ Ok start → packet.header.seq ≡ 1
       → Some (session_begun (slot_for packet.header Authentication single) start) ≡ session_of id (packet ∷ [])
   begun_is start e seq =
       ap (λ (s : Session). Some s)
-      (same_session _ _ own (omega (arith, seq))
-      (sym (rw e refl))
-      (sym (rw e refl)))
+      (same_session _ _ own (omega (arith, seq)) (sym (rw e refl)))
 
   named_is : (trail : List Packet) (session : Session) (answer : Continue) → session_of id trail ≡ Some session → continue_of packet.body ≡ Ok answer → packet.header.seq ≡ session.last_seq + 1
       → Some (session_named (slot_for packet.header Authentication single) session answer.user_msg) ≡ session_of id (packet ∷ trail)
   named_is [] session answer known e seq = absurd cc
   named_is (before ∷ earlier) session answer known e seq =
       let trail = before ∷ earlier in
-      let kept : record { id = id; last_seq = 2 * length trail; service = service_of trail; user = user_of trail } ≡ session = cc in
+      let kept : record { id = id; last_seq = 2 * length trail; asker = asker_of trail } ≡ session = cc in
       let last : 2 * length trail ≡ session.last_seq = ap (λ (s : Session). s.last_seq) kept in
       ap (λ (s : Session). Some s)
-      (same_session _ _ (ap (λ (s : Session). s.id) (sym kept)) (omega (arith, seq, last)) (ap (λ (s : Session). s.service) (sym kept)) (sym (rw e refl)))
+      (same_session _ _ (ap (λ (s : Session). s.id) (sym kept)) (omega (arith, seq, last))
+      (ap (λ (s : Session). named s.asker answer.user_msg) (sym kept) ∙ sym (rw e refl)))
 
   -- what is kept of a session after a packet is what its packets say
   left_by : {outcome : Outcome} (trail : List Packet) → ComesTo single count (session_of id trail) packet outcome → session_left outcome ≡ session_of id (cond (leaves_open outcome) (packet ∷ trail) [])

@@ -4,4 +4,5 @@ pub mod TableFacts
 pub mod CountFacts
 pub mod StandingFacts
 pub mod Laws
+pub mod ReadingFacts
 pub mod Examples

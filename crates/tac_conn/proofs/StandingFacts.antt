@@ -141,10 +141,10 @@ module _ (sessions : List Session) (packet : Packet) (earlier : List Packet) (li
       }
 
 module _ (conn : Conn) (packet : Packet) (earlier : List Packet) (stands : Stands conn earlier) (alive : conn.closed ≡ false) where
-  not_closed : is_closed earlier ≡ false
+  pub not_closed : is_closed earlier ≡ false
   not_closed = sym stands.closed ∙ alive
 
-  same_single : single_with conn.single packet.header ≡ is_single (packet ∷ earlier)
+  pub same_single : single_with conn.single packet.header ≡ is_single (packet ∷ earlier)
   same_single = ap (λ (k : Option Bool). single_with k packet.header) (stands.single alive) ∙ single_next packet earlier
 
   -- the outcome of a packet by what is kept is its outcome by the packets

@@ -4,21 +4,22 @@
 use Rattle.std.specs.Prelude.{ℕ, ◌*◌, List, [], ◌∷◌, length, count_by, Bool, true, false, not, ◌&&◌}
 use Rattle.std.specs.Prelude.{◌||◌, ◌==◌, Option, Some, None, if◌then◌else◌}
 use Rattle.std.specs.List.{list_any}
-use Rattle.std.specs.Option.{option_map_or, option_and_then}
+use Rattle.std.specs.Option.{option_map_or}
 use Rattle.std.specs.Result.{result_ok}
 use Rattle.tac_wire.specs.Flag.{has_flag}
 use Rattle.tac_wire.specs.Header.{single_connect_flag}
 use Rattle.tac_wire.specs.declared.header.Header.{Header}
 use Rattle.tac_authen.specs.declared.start.Start.{Start}
-use Rattle.tac_authen.specs.declared.start.Service.{Service}
-use Rattle.tac_authen.specs.Start.{start_of, authen_svc_none}
+use Rattle.tac_authen.specs.Start.{start_of}
 use Rattle.tac_authen.specs.declared.continuation.Continue.{Continue}
 use Rattle.tac_authen.specs.Continue.{continue_of}
 use Rattle.tac_conn.specs.declared.packet.Packet.{Packet}
+use Rattle.tac_conn.specs.declared.reading.Asker.{Asker}
 use Rattle.tac_conn.specs.declared.session.Session.{Session}
 use Rattle.tac_conn.specs.declared.outcome.Outcome.{Outcome}
 use Rattle.tac_conn.specs.declared.outcome.Outcome.TheVariants.{Close}
-use Rattle.tac_conn.specs.Judging.{given, judged, leaves_open, closes, is_read}
+use Rattle.tac_conn.specs.Asker.{start_asker, named, nobody}
+use Rattle.tac_conn.specs.Judging.{judged, leaves_open, closes, is_read}
 
 -- ---- one session
 
@@ -30,20 +31,13 @@ started packet = result_ok (start_of packet.body)
 abbrev pub continued : Packet → Option Continue
 continued packet = result_ok (continue_of packet.body)
 
--- the service of a session: that of its START
-abbrev pub service_of : List Packet → Service
-service_of [] = record { 0 = authen_svc_none }
-service_of (start ∷ []) =
-    option_map_or (λ start. start.service) (started start) (record { 0 = authen_svc_none })
-service_of (packet ∷ before ∷ earlier) = service_of (before ∷ earlier)
-
--- whose password a session asks for: the user whom its START names, or else its last
--- packet; of neither, the name
-abbrev pub user_of : List Packet → Option (List ℕ)
-user_of [] = None
-user_of (start ∷ []) = option_and_then (λ start. given start.user) (started start)
-user_of (packet ∷ before ∷ earlier) =
-    Some (option_map_or (λ answer. answer.user_msg) (continued packet) [])
+-- who logs in: what its START says, and the name that its last packet told, if another did
+abbrev pub asker_of : List Packet → Asker
+asker_of [] = nobody
+asker_of (start ∷ []) = option_map_or start_asker (started start) nobody
+asker_of (packet ∷ before ∷ earlier) =
+    named (asker_of (before ∷ earlier))
+    (option_map_or (λ answer. answer.user_msg) (continued packet) [])
 
 -- an open session, by its trail: each packet of it was replied to
 abbrev pub session_of : ℕ → List Packet → Option Session
@@ -53,8 +47,7 @@ session_of id (packet ∷ earlier) =
     Some (record {
       id = id;
       last_seq = 2 * length trail;
-      service = service_of trail;
-      user = user_of trail;
+      asker = asker_of trail;
     })
 
 -- ---- a connection

@@ -39,6 +39,7 @@ use Rattle.tac_conn.specs.declared.session.Session.{Session}
 use Rattle.tac_conn.specs.declared.outcome.Outcome.{Outcome}
 use Rattle.tac_conn.specs.declared.outcome.Outcome.TheVariants.{Question, Reply, Asks, Silent}
 use Rattle.tac_conn.specs.declared.outcome.Outcome.TheVariants.{Close}
+use Rattle.tac_conn.specs.Asker.{start_asker, named}
 use Rattle.tac_conn.specs.Reply.{fail, authen_error, question_to, secret_question, refusal}
 use Rattle.tac_conn.specs.Reply.{acct_error, bad_body, answer_body}
 
@@ -113,14 +114,13 @@ abbrev pub given : List ℕ → Option (List ℕ)
 given [] = None
 given (byte ∷ name) = Some (byte ∷ name)
 
--- the session that a START opens
+-- the session that a START opens: who logs in is known from then on
 abbrev pub session_begun : Slot → Start → Session
 session_begun slot start =
     record {
       id = slot.header.session;
       last_seq = slot.header.seq;
-      service = start.service;
-      user = given start.user;
+      asker = start_asker start;
     }
 
 -- ASCII: the name is asked for, or the password
@@ -180,7 +180,8 @@ aborted slot = if slot.single then Silent else Close
 
 -- the session once its user was named
 abbrev pub session_named : Slot → Session → List ℕ → Session
-session_named slot session name = record session { last_seq = slot.header.seq; user = Some name }
+session_named slot session name =
+    record session { last_seq = slot.header.seq; asker = named session.asker name }
 
 -- the name that was asked for: the empty text is no name
 abbrev pub name_outcome : Slot → Session → List ℕ → Outcome
@@ -192,12 +193,12 @@ name_outcome slot session (byte ∷ name) =
 abbrev pub typed_outcome : Slot → Session → Option (List ℕ) → List ℕ → Outcome
 typed_outcome slot session None typed = name_outcome slot session typed
 typed_outcome slot session (Some user) typed =
-    Asks (Authenticate user session.service (Plain typed)) slot
+    Asks (Authenticate user (record { 0 = session.asker.service }) (Plain typed)) slot
 
 abbrev pub continue_outcome : Slot → Session → Continue → Outcome
 continue_outcome slot session answer =
     if has_flag continue_flag_abort answer.flags then aborted slot
-    else typed_outcome slot session session.user answer.user_msg
+    else typed_outcome slot session (given session.asker.user) answer.user_msg
 
 abbrev pub continue_read : Slot → Session → Option Continue → Outcome
 continue_read slot session None = breaks slot
@@ -221,7 +222,8 @@ request_read slot (Some request) = requested_outcome slot request.user (requeste
 -- a record is to be stored, where the flags are those of a kind of record
 abbrev pub record_outcome : Slot → AcctRequest → Option AcctKind → Outcome
 record_outcome slot request None = ends slot (acct_error (codes "bad flags"))
-record_outcome slot request (Some kind) = Asks (Account (record_of request kind)) slot
+record_outcome slot request (Some kind) =
+    Asks (Account (record_of request.user request.args kind)) slot
 
 abbrev pub acct_read : Slot → Option AcctRequest → Outcome
 acct_read slot None = breaks slot

@@ -1,7 +1,10 @@
 pub mod Ask
 pub mod Packet
 pub mod Reply
+pub mod Asker
 pub mod Judging
+pub mod Reading
 pub mod History
 pub mod Sessions
 pub mod Standing
+pub mod Received

@@ -1,5 +1,6 @@
 //! What is asked of the desk, which has the policy and the records, and what it answers.
 
+use crate::reading::{Reading, account_of, command_of, login_of, service_of};
 use crate::typed::Typed;
 use basics::{Bytes, StructuralEq};
 use pol_names::{By, SubjectId};
@@ -61,6 +62,34 @@ impl Drop for Ask {
                 protocol: _,
             } => {}
             Ask::Account(_) => {}
+        }
+    }
+}
+
+impl Ask {
+    ghost use Rattle.std.specs.Prelude.{◌≡◌};
+    ghost use Rattle.tac_conn.specs.Reading.{rejoined};
+
+    /// What was read beside it, with what it has of that: the user, the line and the task.
+    pub(crate) fn rejoined(self, reading: Reading) -> Reading
+        ensures { result ≡ rejoined self reading }
+    {
+        match self {
+            Ask::Authenticate {
+                user,
+                service: _,
+                proof: _,
+            } => login_of(reading, user),
+            Ask::Authorise { user, line } => command_of(reading, user, line),
+            Ask::Serve {
+                user,
+                service: _,
+                protocol: _,
+            } => service_of(reading, user),
+            Ask::Account(record) => {
+                let (user, task) = record.into_texts();
+                account_of(reading, user, task)
+            }
         }
     }
 }

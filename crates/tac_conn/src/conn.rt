@@ -8,6 +8,8 @@ ghost use Rattle.tac_conn.specs.Reply.{IsReplyTo, answer_body};
 ghost use Rattle.tac_conn.specs.Judging as judging;
 ghost use Rattle.tac_conn.specs.History as history;
 ghost use Rattle.tac_conn.specs.Standing as standing;
+ghost use Rattle.tac_conn.specs.Received.{received, received_as, too_late, without_ask};
+ghost use Rattle.tac_conn.specs.Received.{judged_in};
 ghost use Rattle.tac_conn.specs.declared.ask.Answer.{Answer as AnswerValue};
 ghost use Rattle.tac_conn.specs.declared.packet.Packet.{Packet as PacketValue};
 ghost use Rattle.tac_conn.specs.declared.step.Step.TheVariants as steps;
@@ -16,6 +18,7 @@ use crate::ask::{Answer, Slot};
 use crate::judging::judge;
 use crate::outcome::{Outcome, reply_in};
 use crate::packet::Packet;
+use crate::reading::{Reading, Received};
 use crate::reply::{Reply, answer_body};
 use crate::session::{Session, find_session, settle};
 use crate::step::Step;
@@ -44,6 +47,16 @@ fn single_with(single: Option<bool>, header: &Header) -> bool
     }
 }
 
+// A packet of this header that was read so.
+fn received_as(header: &Header, reading: Reading) -> Received
+    ensures { result ≡ record { session = header.now.session; reading = reading } }
+{
+    Received {
+        session: header.session,
+        reading,
+    }
+}
+
 impl Conn {
     /// A connection on which nothing came yet. Takes no memory.
     pub fn new(alloc: Global) -> Conn
@@ -66,11 +79,10 @@ impl Conn {
         self.pending
     }
 
-    // The outcome of a packet, on a connection that is open.
-    #[tactic(auto, unfolding(crate::specs::Standing::outcome_in, crate::specs::Standing::is_read_in))]
-    fn judge(&self, packet: &Packet) -> Result<Outcome, AllocError>
-        ensures outcome { IfOk result
-            (λ outcome. outcome ≡ standing.outcome_in self.now packet.now) }
+    // What a packet is read as, and its outcome, on a connection that is open.
+    #[tactic(auto, unfolding(crate::specs::Standing::outcome_in, crate::specs::Standing::is_read_in, crate::specs::Received::read_in))]
+    fn judge(&self, packet: &Packet) -> Result<(Reading, Outcome), AllocError>
+        ensures taken { IfOk result (λ taken. taken ≡ judged_in self.now packet.now) }
         ensures memory { OnErr result (IsTrue (standing.is_read_in self.now packet.now)) }
     {
         let sessions = self.sessions.as_slice();
@@ -100,65 +112,80 @@ impl Conn {
     }
 
     // Takes a packet on a connection that is open.
-    fn take_open(&mut self, packet: &Packet) -> Result<Step, AllocError>
+    fn take_open(&mut self, packet: &Packet) -> Result<(Received, Step), AllocError>
         ensures ok { let outcome = standing.outcome_in self.old packet.now in
             OnOk result (self.new ≡ standing.conn_after self.old packet.now.header outcome) }
+        ensures received { IfOk result
+            (λ taken. taken.0 ≡ received_as packet.now (judged_in self.old packet.now).0) }
         ensures step { IfOk result
-            (λ step. step ≡ standing.step_of (standing.outcome_in self.old packet.now)) }
+            (λ taken. taken.1 ≡ standing.step_of (standing.outcome_in self.old packet.now)) }
         ensures err { OnErr result (self.new ≡ self.old) }
         ensures memory { OnErr result (IsTrue (standing.is_read_in self.old packet.now)) }
     {
-        let outcome = self.judge(packet)?;
-        self.follow(&packet.header, outcome)
+        let (reading, outcome) = self.judge(packet)?;
+        match self.follow(&packet.header, outcome) {
+            Ok(step) => Ok((received_as(&packet.header, reading), step)),
+            Err(error) => Err(error),
+        }
     }
 
-    /// Takes a packet that came, without its pad, where no answer is waited for.
+    /// Takes a packet that came, without its pad, where no answer is waited for, and says what it
+    /// was read as, beside what is done for it. An ask has the user, the line and the task, which
+    /// the reading doesn't have then.
     ///
     /// A closed connection answers [`Step::Close`] and stays as it is. The error means that memory
     /// ran out: nothing has changed.
-    pub fn take_clear(&mut self, packet: &Packet) -> Result<Step, AllocError>
+    pub fn take_clear(&mut self, packet: &Packet) -> Result<(Received, Step), AllocError>
         requires { standing.pending_of self.old ≡ None }
         // What is done is the packet's outcome, by the clear packets that came before it.
         ensures step { (earlier : List PacketValue) → standing.Stands self.old earlier →
             let outcome = history.outcome earlier packet.now in
-            IfOk result (λ step. step ≡ standing.step_of outcome) }
+            IfOk result (λ taken. taken.1 ≡ standing.step_of outcome) }
+        // What it was read as is the reading of its body, by those packets.
+        ensures received { (earlier : List PacketValue) → standing.Stands self.old earlier →
+            IfOk result (λ taken. taken.0 ≡ without_ask taken.1 (received earlier packet.now)) }
         ensures stands { (earlier : List PacketValue) → standing.Stands self.old earlier →
             OnOk result (standing.Stands self.new (packet.now ∷ earlier)) }
         ensures pending { IfOk result
-            (λ step. standing.pending_of self.new ≡ standing.slot_in step) }
-        ensures kind { IfOk result standing.HasItsSlot }
+            (λ taken. standing.pending_of self.new ≡ standing.slot_in taken.1) }
+        ensures kind { IfOk result (λ taken. standing.HasItsSlot taken.1) }
         ensures closed { IsTrue (standing.closed_of self.old) →
-            (result ≡ Ok steps.Close) × (self.new ≡ self.old) }
+            (result ≡ Ok (too_late packet.now, steps.Close)) × (self.new ≡ self.old) }
         ensures err { OnErr result (self.new ≡ self.old) }
         // Only a packet that is read takes memory, so any other is refused in any case.
         ensures memory { (earlier : List PacketValue) → standing.Stands self.old earlier →
             OnErr result (IsTrue (history.is_read_after earlier packet.now)) }
     {
         if self.closed {
-            return Ok(Step::Close);
+            return Ok((received_as(&packet.header, Reading::OutOfTurn), Step::Close));
         }
         self.take_open(packet)
     }
 
-    /// Takes a packet that came by a door, where no answer is waited for, and gives it back in
-    /// clear, beside what is done for it.
+    /// Takes a packet that came by a door, where no answer is waited for, and says what it was read
+    /// as, beside what is done for it. An ask has the user, the line and the task, which the
+    /// reading doesn't have then.
     ///
     /// A closed connection answers [`Step::Close`] and stays as it is. The error means that memory
     /// ran out: nothing has changed, and the packet is gone.
-    pub fn take(&mut self, door: &Door, frame: Frame) -> Result<(Packet, Step), AllocError>
+    pub fn take(&mut self, door: &Door, frame: Frame) -> Result<(Received, Step), AllocError>
         requires { standing.pending_of self.old ≡ None }
-        ensures packet { IfOk result (λ taken. taken.0 ≡ clear door.now frame) }
         // What is done is the packet's outcome, by the clear packets that came before it.
         ensures step { (earlier : List PacketValue) → standing.Stands self.old earlier →
             let outcome = history.outcome earlier (clear door.now frame) in
             IfOk result (λ taken. taken.1 ≡ standing.step_of outcome) }
+        // What it was read as is the reading of its body, by those packets.
+        ensures received { (earlier : List PacketValue) → standing.Stands self.old earlier →
+            let whole = received earlier (clear door.now frame) in
+            IfOk result (λ taken. taken.0 ≡ without_ask taken.1 whole) }
         ensures stands { (earlier : List PacketValue) → standing.Stands self.old earlier →
             OnOk result (standing.Stands self.new (clear door.now frame ∷ earlier)) }
         ensures pending { IfOk result
             (λ taken. standing.pending_of self.new ≡ standing.slot_in taken.1) }
         ensures kind { IfOk result (λ taken. standing.HasItsSlot taken.1) }
         ensures closed { IsTrue (standing.closed_of self.old) →
-            (result ≡ Ok (clear door.now frame, steps.Close)) × (self.new ≡ self.old) }
+            (result ≡ Ok (too_late (clear door.now frame), steps.Close))
+            × (self.new ≡ self.old) }
         ensures err { OnErr result (self.new ≡ self.old) }
         // Only a packet that is read takes memory, so any other is refused in any case.
         ensures memory { (earlier : List PacketValue) → standing.Stands self.old earlier →
@@ -172,10 +199,7 @@ impl Conn {
             history.open_sessions packets ≤ 1 }
     {
         let packet = Packet::clear(door, frame);
-        match self.take_clear(&packet) {
-            Ok(step) => Ok((packet, step)),
-            Err(error) => Err(error),
-        }
+        self.take_clear(&packet)
     }
 
     /// The reply that carries the desk's answer, and whether the connection closes then. The slot

@@ -3,6 +3,7 @@
 ghost use Rattle.std.specs.Prelude.{◌≡◌, ◌<◌, is_ok, IsTrue, IfOk, OnErr};
 ghost use Rattle.std.specs.Option.{option_copied};
 ghost use Rattle.tac_conn.specs.Judging as judging;
+ghost use Rattle.tac_conn.specs.Reading.{judged_as, opening_as, body_as, read_as};
 
 use crate::accounting::judge_record;
 use crate::ask::{AskKind, Slot};
@@ -10,6 +11,7 @@ use crate::authorisation::judge_request;
 use crate::continuation::judge_continue;
 use crate::outcome::{Outcome, slot_for, unserved};
 use crate::packet::Packet;
+use crate::reading::Reading;
 use crate::session::Session;
 use crate::start::judge_start;
 use std::alloc::{AllocError, Global};
@@ -53,9 +55,10 @@ fn judge_opening(
     count: usize,
     slot: Slot,
     body: &[u8],
-) -> Result<Outcome, AllocError>
-    ensures outcome { IfOk result
-        (λ outcome. outcome ≡ judging.opening_outcome slot.kind count slot body.now) }
+) -> Result<(Reading, Outcome), AllocError>
+    ensures taken { IfOk result (λ taken. taken
+        ≡ judged_as (judging.opening_outcome slot.kind count slot body.now)
+        (opening_as slot.kind body.now)) }
     ensures memory { OnErr result (IsTrue (judging.is_first_body slot.kind body.now)) }
 {
     match slot.kind {
@@ -72,9 +75,10 @@ fn judge_body(
     session: Option<&Session>,
     slot: Slot,
     body: &[u8],
-) -> Result<Outcome, AllocError>
-    ensures outcome { IfOk result (λ outcome.
-        outcome ≡ judging.body_outcome count (option_copied session.entry) slot body.now) }
+) -> Result<(Reading, Outcome), AllocError>
+    ensures taken { let known = option_copied session.entry in
+        IfOk result (λ taken. taken ≡ judged_as (judging.body_outcome count known slot body.now)
+        (body_as known slot.kind body.now)) }
     ensures memory { OnErr result
         (IsTrue (judging.is_body (option_copied session.entry) slot.kind body.now)) }
 {
@@ -84,31 +88,32 @@ fn judge_body(
     }
 }
 
-/// The outcome of a clear packet on a connection that is single or isn't, with so many sessions
-/// open, its own among them where it is open. The error means that memory ran out, for a packet
-/// that is read.
-#[tactic(auto, unfolding(crate::specs::Judging::judged))]
+/// What a clear packet is read as, and its outcome, on a connection that is single or isn't, with
+/// so many sessions open, its own among them where it is open. The error means that memory ran out,
+/// for a packet that is read.
+#[tactic(auto, unfolding(crate::specs::Judging::judged, crate::specs::Reading::read_as))]
 pub(crate) fn judge(
     alloc: Global,
     single: bool,
     count: usize,
     session: Option<&Session>,
     packet: &Packet,
-) -> Result<Outcome, AllocError>
-    ensures outcome { IfOk result (λ outcome.
-        outcome ≡ judging.judged single count (option_copied session.entry) packet.now) }
+) -> Result<(Reading, Outcome), AllocError>
+    ensures taken { let known = option_copied session.entry in
+        IfOk result (λ taken. taken ≡ judged_as (judging.judged single count known packet.now)
+        (read_as single count known packet.now)) }
     ensures memory { OnErr result
         (IsTrue (judging.is_read single count (option_copied session.entry) packet.now)) }
 {
     let header = &packet.header;
     if header.seq == 255 {
-        return Ok(Outcome::Close);
+        return Ok((Reading::OutOfTurn, Outcome::Close));
     }
     let Some(kind) = kind_of(header) else {
-        return Ok(unserved(header));
+        return Ok((Reading::Unserved, unserved(header)));
     };
     if !is_in_turn(single, count, session, kind, header) {
-        return Ok(Outcome::Close);
+        return Ok((Reading::OutOfTurn, Outcome::Close));
     }
     let slot = slot_for(header, kind, single);
     judge_body(alloc, count, session, slot, packet.body.as_slice())

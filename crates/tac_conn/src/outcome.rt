@@ -2,8 +2,10 @@
 
 ghost use Rattle.std.specs.Prelude.{◌≡◌, ◌<◌};
 ghost use Rattle.tac_conn.specs.Judging as judging;
+ghost use Rattle.tac_conn.specs.declared.reading.Reading.TheVariants.{BadBody};
 
 use crate::ask::{Ask, AskKind, Slot};
+use crate::reading::Reading;
 use crate::reply::{Reply, ReplyBody, bad_body};
 use crate::session::Session;
 use crate::step::Step;
@@ -78,11 +80,12 @@ pub(crate) fn ends(slot: Slot, body: ReplyBody) -> Outcome
     Outcome::Reply(reply_in(slot, body), !slot.single)
 }
 
-/// The answer to an invalid body, which closes the connection.
-pub(crate) fn breaks(slot: Slot) -> Outcome
-    ensures { result ≡ judging.breaks slot }
+/// An invalid body, and its answer, which closes the connection.
+pub(crate) fn breaks(slot: Slot) -> (Reading, Outcome)
+    ensures { result ≡ (BadBody, judging.breaks slot) }
 {
-    Outcome::Reply(reply_in(slot, bad_body(slot.kind)), true)
+    let outcome = Outcome::Reply(reply_in(slot, bad_body(slot.kind)), true);
+    (Reading::BadBody, outcome)
 }
 
 /// The answer to a type that isn't served: the header again, with the next seq_no and no body.

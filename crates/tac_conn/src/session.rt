@@ -5,9 +5,9 @@ ghost use Rattle.std.specs.List.{find};
 ghost use Rattle.std.specs.Option.{option_copied};
 ghost use Rattle.tac_conn.specs.Sessions as table;
 
-use basics::{Bytes, Sequence};
+use crate::reading::Asker;
+use basics::Sequence;
 use std::alloc::AllocError;
-use tac_authen::Service;
 
 /// An open session: one of authentication that has asked its client for more.
 #[derive(Drop)]
@@ -15,9 +15,8 @@ pub(crate) struct Session {
     pub(crate) id: u32,
     /// The seq_no of the last reply. The session's next packet has the one after it.
     pub(crate) last_seq: u8,
-    pub(crate) service: Service,
-    /// The user whose password is asked for. Without one the name is asked for.
-    pub(crate) user: Option<Bytes>,
+    /// Who logs in: his password is asked for. Without a name that is asked for.
+    pub(crate) asker: Asker,
 }
 
 /// The session of this id.

@@ -11,6 +11,7 @@ use Rattle.pol_meaning.specs.declared.Changes.{Changes}
 use Rattle.pol_text.specs.declared.subject.Subject.{Subject}
 use Rattle.tac_conn.specs.Ask.{kind_of_ask, kind_of_answer}
 use Rattle.tac_conn.specs.declared.ask.Answer.{Answer}
+use Rattle.tac_conn.specs.declared.ask.Ask.{Ask}
 use Rattle.tac_desk.specs.declared.query.Query.{Query}
 use Rattle.tac_desk.specs.declared.query.QueryFault.{QueryFault}
 use Rattle.tac_desk.specs.declared.query.Report.{Report}
@@ -77,6 +78,11 @@ IsOfKind call answer = ⊥
 abbrev pub asked_answer : CallAnswer → Option Answer
 asked_answer (answers.Ask answer) = Some answer
 asked_answer answer = None
+
+-- what a connection asked, if that was called
+abbrev pub asked_in : Call → Option Ask
+asked_in (calls.Ask ask) = Some ask
+asked_in call = None
 
 -- ---- one call after another
 

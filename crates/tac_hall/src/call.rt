@@ -41,7 +41,17 @@ impl Drop for Call {
 
 impl Call {
     ghost use Rattle.std.specs.Prelude.{◌≡◌};
-    ghost use Rattle.tac_hall.specs.Calls.{is_stop};
+    ghost use Rattle.tac_hall.specs.Calls.{asked_in, is_stop};
+
+    /// What a connection asked, if that was called.
+    pub fn into_ask(self) -> Option<Ask>
+        ensures { result ≡ asked_in self }
+    {
+        match self {
+            Call::Ask(ask) => Some(ask),
+            _ => None,
+        }
+    }
 
     /// Whether no further call is taken.
     pub fn is_stop(&self) -> bool

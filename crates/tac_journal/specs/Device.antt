@@ -1,13 +1,10 @@
 -- What the log of a connection is once a notice was told, or was refused.
 use Rattle.std.specs.Prelude.{◌≡◌, ◌⊎◌, ℕ, List, Option, Some, None, Result, Ok, Err}
-use Rattle.tac_conn.specs.declared.packet.Packet.{Packet}
 use Rattle.tac_audit.specs.declared.event.Origin.{Origin}
-use Rattle.tac_audit.specs.declared.logins.Logins.{Logins}
-use Rattle.tac_audit.specs.declared.logins.Noted.{Noted}
 use Rattle.tac_audit.specs.declared.notice.Notice.{Notice}
 use Rattle.tac_audit.specs.declared.witness.Refused.{Refused}
-use Rattle.tac_audit.specs.Logins.{Knows}
-use Rattle.tac_audit.specs.Noted.{noted_of, packets_after, IsAnswered}
+use Rattle.tac_audit.specs.Told.{Noted}
+use Rattle.tac_audit.specs.Noted.{noted_of}
 use Rattle.tac_audit.specs.Witness.{AreTold}
 use Rattle.tac_journal.specs.Lines.{IsLine, AreLines}
 
@@ -42,34 +39,24 @@ HasLinesButLast {S} takes refuses origin noted last old new =
 
 -- the line was taken; or it was refused, or never came to the log
 abbrev pub IsNoted : {S : Type 0} → (S → List ℕ → S → Type 0) → (S → List ℕ → S → Type 0)
-    → Result (Unit {0}) Refused → Origin → Noted → S → S → Type 0
-IsNoted takes refuses (Ok done) origin noted old new = HasLine takes origin (Some noted) old new
-IsNoted takes refuses (Err refused) origin noted old new =
-    LacksLine refuses origin (Some noted) old new
+    → Result (Unit {0}) Refused → Origin → Option Noted → S → S → Type 0
+IsNoted takes refuses (Ok done) origin noted old new = HasLine takes origin noted old new
+IsNoted takes refuses (Err refused) origin noted old new = LacksLine refuses origin noted old new
 
 -- ---- a notice
 
--- where its lines come from, the logins that go on, and the log
+-- where its lines come from, and the log
 pub record Place (S : Type 0) : Type 0 where
   pub origin : Origin
-  pub logins : Logins
   pub log : S
 
--- the log took the line of what is noted of it after the packets that came before, whichever these
--- were, if the logins are those that went on then; and so they are after it
+-- the log took the line of what is noted of it
 pub record Takes {S : Type 0} (takes : S → List ℕ → S → Type 0) (was : Place S) (notice : Notice)
     (now : Place S) : Type 0 where
   pub origin : now.origin ≡ was.origin
-  pub line :
-      (earlier : List Packet) → Knows was.logins earlier →
-      HasLine takes was.origin (noted_of earlier notice) was.log now.log
-  pub logins :
-      (earlier : List Packet) → Knows was.logins earlier → IsAnswered earlier notice →
-      Knows now.logins (packets_after earlier notice)
+  pub line : HasLine takes was.origin (noted_of notice) was.log now.log
 
 -- it refused that line, or the line never came to it
 abbrev pub Refuses : {S : Type 0} → (S → List ℕ → S → Type 0) → Place S → Notice → Place S
     → Type 0
-Refuses refuses was notice now =
-    (earlier : List Packet) → Knows was.logins earlier →
-    LacksLine refuses was.origin (noted_of earlier notice) was.log now.log
+Refuses refuses was notice now = LacksLine refuses was.origin (noted_of notice) was.log now.log

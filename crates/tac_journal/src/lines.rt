@@ -1,29 +1,28 @@
 //! The line of what is noted of a connection.
 
 ghost use Rattle.std.specs.Prelude.{◌≡◌, IfOk};
-ghost use Rattle.tac_audit.specs.Event.{line_of};
-ghost use Rattle.tac_journal.specs.Lines.{event_of};
+ghost use Rattle.tac_audit.specs.Noted.{noted_of};
+ghost use Rattle.tac_journal.specs.Lines.{IsLineAt};
 
 use basics::Bytes;
 use std::alloc::{AllocError, Global};
-use tac_audit::{Event, Noted, Origin, push_event};
+use tac_audit::{Notice, Origin, push_line};
 
-/// The line of what is noted of this origin at this time. The error means that memory ran out.
+/// The line of a notice of this origin at this time, if it has one. The error means that memory ran
+/// out.
 pub(crate) fn line_of(
     alloc: Global,
-    time: Bytes,
+    time: &Bytes,
     origin: &Origin,
-    noted: Noted,
-) -> Result<Vec<u8>, AllocError>
-    ensures { IfOk result (λ line. line.items ≡ line_of (event_of time origin.now noted)) }
+    notice: &Notice,
+) -> Result<Option<Vec<u8>>, AllocError>
+    ensures { IfOk result
+        (λ line. IsLineAt time.now origin.now (noted_of notice.now) line) }
 {
-    let event = Event {
-        time: Some(time),
-        origin: origin.copy(alloc)?,
-        session: noted.session,
-        told: noted.told,
-    };
     let mut line = Vec::new(alloc);
-    push_event(&mut line, &event)?;
-    Ok(line)
+    if push_line(alloc, &mut line, Some(time), origin, notice)? {
+        Ok(Some(line))
+    } else {
+        Ok(None)
+    }
 }

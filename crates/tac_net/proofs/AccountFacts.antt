@@ -2,12 +2,10 @@
 use Rattle.std.proofs.Common.{◌≡◌, ◌≢◌, inl, inr, Contains, ◌≤◌, ℕ, zero, suc, List, [], ◌∷◌, ◌++◌, map, get_or, Option, Some, None, refl, sym, ap, subst, ◌∙◌, append_assoc, append-nil}
 use Rattle.std.specs.Prelude.{All}
 use Rattle.std.proofs.lemmas.List.Elements.{All-nil, All-cons, All-head, All-tail}
-use Rattle.tac_wire.specs.Stream.{cut}
 use Rattle.tac_conn.specs.declared.ask.Ask.{Ask}
 use Rattle.tac_audit.specs.declared.event.Named.{Named}
 use Rattle.tac_audit.specs.declared.notice.Notice.{Notice}
 use Rattle.tac_audit.specs.Witness.{AreTold}
-use Rattle.tac_audit.proofs.NoticeFacts.{are_answered}
 use Rattle.tac_hall.specs.declared.fault.HallFault.{HallFault}
 use Rattle.tac_hall.specs.Room.{Opening}
 use Rattle.tac_hall.specs.Seat.{Seated, CatchesUp}
@@ -16,14 +14,13 @@ use Rattle.tac_worker.specs.declared.end.End.{End}
 use Rattle.tac_worker.specs.AtHall.{MakesOne, Refuses}
 use Rattle.tac_worker.specs.Linked.{Linked, IsOver, IsOpen, StandsSo}
 use Rattle.tac_worker.specs.Told.{RefusesOne, refused_of}
-use Rattle.tac_worker.specs.Worked.{answers_of}
 use Rattle.tac_worker.specs.declared.line.Line.{Line}
 use Rattle.tac_worker.specs.Calls.{Call}
 use Rattle.tac_worker.specs.Board.{Board, AreAll, AreApart, IsKnown, IsAccounted, IsWorking}
 use Rattle.tac_net.specs.Logs.{HasLogged}
 use Rattle.tac_net.specs.declared.callers.Callers.{Callers}
 use Rattle.tac_net.specs.Connections.{IsTold, IsRefused, TellsLog, Begins, DeskLine, DeskBoard, IsDeskBoard, IsConnectionOf, HasServed}
-use Rattle.tac_net.proofs.LogFacts.{all_answered, served_as}
+use Rattle.tac_net.proofs.LogFacts.{served_as}
 
 -- ---- one for each
 
@@ -132,7 +129,7 @@ module _ {C V : Type 0} (refuses : C → Ask → HallFault → Type 0) (takes re
       took = told_all [] o.told;
       replies = o.replies;
     };
-    logged = t.logged o.told link.witness o.took (are_answered link.door (cut link.door link.heard).packets (cut link.door link.heard).tail (answers_of o.made) o.told o.untold (sym o.parts));
+    logged = t.logged o.told link.witness o.took;
   }
 
   refused_so : (who : Option Named) (told : List Notice) (first between now : V) (refused : Option Notice) → TellsLog takes refuses_notice log who first → AreTold takes first told between → RefusesOne refuses_notice between refused now
@@ -147,7 +144,7 @@ module _ {C V : Type 0} (refuses : C → Ask → HallFault → Type 0) (takes re
       record {
         told = tells.told;
         stands = served_as work (tells.told, told_all [] tells.told, refused_so who tells.told link.first took.0 link.witness (refused_of end tells.left) t took.1 took.2);
-        logged = t.logged tells.told took.0 took.1 (all_answered work);
+        logged = t.logged tells.told took.0 took.1;
       }
 
   knows_so : (who : Option Named) (end : Option End) (link : Linked C V) → TellsLog takes refuses_notice log who link.first → StandsSo refuses takes refuses_notice end link → Knows who end link

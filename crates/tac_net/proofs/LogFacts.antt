@@ -2,15 +2,13 @@
 use Rattle.std.proofs.Common.{◌≡◌, inr, ℕ, List, [], ◌∷◌, true, Option, None, Some, Result, All, refl, sym, subst}
 use Rattle.std.proofs.lemmas.List.Elements.{All-nil, All-cons}
 use Rattle.tac_wire.specs.declared.door.Door.{Door}
-use Rattle.tac_wire.specs.Stream.{cut}
 use Rattle.tac_conn.specs.declared.ask.Ask.{Ask}
 use Rattle.tac_audit.specs.declared.event.Named.{Named}
 use Rattle.tac_audit.specs.declared.event.Origin.{Origin}
 use Rattle.tac_audit.specs.declared.notice.Notice.{Notice}
 use Rattle.tac_audit.specs.declared.notice.Typing.{Typing}
-use Rattle.tac_audit.specs.Noted.{noted_of_each, AreAnswered}
+use Rattle.tac_audit.specs.Noted.{noted_of_each}
 use Rattle.tac_audit.specs.Witness.{AreTold}
-use Rattle.tac_audit.proofs.NoticeFacts.{are_answered}
 use Rattle.tac_hall.specs.declared.fault.HallFault.{HallFault}
 use Rattle.tac_hall.specs.Room.{Opening}
 use Rattle.tac_hall.specs.Seat.{Seated}
@@ -20,18 +18,11 @@ use Rattle.tac_journal.specs.Device.{HasLines}
 use Rattle.tac_journal.specs.Log.{Keeping}
 use Rattle.tac_worker.specs.declared.end.End.{End}
 use Rattle.tac_worker.specs.Told.{refused_of, TakesUntil}
-use Rattle.tac_worker.specs.Worked.{Exchange, answers_of, Traffic, IsServedBy}
+use Rattle.tac_worker.specs.Worked.{Exchange, Traffic, IsServedBy}
 use Rattle.tac_net.specs.Connections.{TellsLog}
 use Rattle.tac_net.specs.Logs.{Logs}
 
 -- ---- a connection
-
--- all that was told was answered
-pub all_answered : {end : End} {door : Door} {makes : List Exchange → Type 0} {refuses : Ask → HallFault → Type 0} {are_told : List Notice → Option Notice → Type 0} {traffic : Traffic}
-    → (work : IsServedBy end door makes refuses are_told traffic) → AreAnswered [] work.told.told
-all_answered {door = door} work =
-    let tells = work.told in
-    are_answered door (cut door work.input).packets (cut door work.input).tail (answers_of work.ends.made) tells.told tells.left (sym tells.parts)
 
 module _ {end : End} {door : Door} {makes : List Exchange → Type 0} {refuses : Ask → HallFault → Type 0} {are_told others : List Notice → Option Notice → Type 0} {traffic : Traffic} where
   -- more is known of what was told
@@ -76,12 +67,12 @@ module _ {W : Type 0} (was now : W) where
 
 -- the log has the lines of all that it took
 module _ {W S L : Type 0} (takes refuses : W → Notice → W → Type 0) (entry : W → S) (log_of : S → L) (keeping : L → Keeping) (origin : Origin) (who : Option Named) (named : origin.named ≡ who) (old : S) (log : L) (same : log_of old ≡ log) (was : W)
-    (lines : (notices : List Notice) (now : W) → AreTold takes was notices now → AreAnswered [] notices
-    → HasLines (λ (was : S) (line : List ℕ) (now : S). (now ≡ was) × (keeping (log_of was)).took line) origin (noted_of_each [] notices) old (entry now)) where
+    (lines : (notices : List Notice) (now : W) → AreTold takes was notices now
+    → HasLines (λ (was : S) (line : List ℕ) (now : S). (now ≡ was) × (keeping (log_of was)).took line) origin (noted_of_each notices) old (entry now)) where
   pub tells_log : (keeping log).is_kept ≡ true → TellsLog takes refuses (keeping log) who was
   tells_log kept = record {
-    logged = λ told now t answered.
-        let has = lines told now t answered in
+    logged = λ told now t.
+        let has = lines told now t in
         inr (origin, named, has.0, has.1, subst (λ (l : L). All (keeping l).took has.0) same (taken (λ (s : S). (keeping (log_of s)).took) has.0 old (entry now) has.2));
     refused = λ told between now notice t r. kept;
   }

@@ -33,7 +33,7 @@ module _ {D W : Type 0} (log_of : D → Option W) (takes refuses : W → Notice 
 
   pub tells_some : (log : Keeping) (who : Option Named) (w : W) (was : D) → log_of was ≡ Some w → TellsLog takes refuses log who w → TellsLog Takes Refuses log who was
   tells_some log who w was is tells = record {
-    logged = λ told now t answered. let all = told_some w was told now is t in tells.logged told all.0 all.2 answered;
+    logged = λ told now t. let all = told_some w was told now is t in tells.logged told all.0 all.2;
     refused = λ told between now notice t r.
         let all = told_some w was told between is t in
         let last = refuses_some all.0 notice (log_of now) (subst (λ (o : Option W). RefusesBy refuses o notice (log_of now)) all.1 r) in
@@ -52,6 +52,6 @@ module _ {D W : Type 0} (log_of : D → Option W) (takes refuses : W → Notice 
 
   pub tells_none : (log : Keeping) (who : Option Named) (was : D) → log_of was ≡ None → log.is_kept ≡ false → TellsLog Takes Refuses log who was
   tells_none log who was is none = record {
-    logged = λ told now t answered. inl none;
+    logged = λ told now t. inl none;
     refused = λ told between now notice t r. absurd (subst (λ (o : Option W). RefusesBy refuses o notice (log_of now)) (told_none was told between is t) r);
   }

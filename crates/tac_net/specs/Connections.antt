@@ -3,7 +3,6 @@
 use Rattle.std.specs.Prelude.{◌≡◌, ◌≤◌, ℕ, List, [], ◌∷◌, ◌++◌, Bool, true, Option}
 use Rattle.tac_audit.specs.declared.event.Named.{Named}
 use Rattle.tac_audit.specs.declared.notice.Notice.{Notice}
-use Rattle.tac_audit.specs.Noted.{AreAnswered}
 use Rattle.tac_audit.specs.Witness.{AreTold}
 use Rattle.tac_hall.specs.Room.{Opening}
 use Rattle.tac_hall.specs.Seat.{Seated, CatchesUp}
@@ -30,7 +29,7 @@ IsRefused is_kept was notice now = (is_kept ≡ true) × (now ≡ was)
 -- refuses a notice only where a log is kept
 pub record TellsLog {V : Type 0} (takes refuses : V → Notice → V → Type 0) (log : Keeping)
     (who : Option Named) (first : V) : Type 0 where
-  pub logged : (told : List Notice) (now : V) → AreTold takes first told now → AreAnswered [] told
+  pub logged : (told : List Notice) (now : V) → AreTold takes first told now
       → HasLogged log who told
   pub refused : (told : List Notice) (between now : V) (notice : Notice)
       → AreTold takes first told between → refuses between notice now → log.is_kept ≡ true

@@ -1,5 +1,5 @@
 -- What an auditor's log took of a connection (docs/AUDIT.md).
-use Rattle.std.specs.Prelude.{◌≡◌, ◌⊎◌, ℕ, List, [], false, Option, Some, None, All}
+use Rattle.std.specs.Prelude.{◌≡◌, ◌⊎◌, ℕ, List, false, Option, Some, None, All}
 use Rattle.tac_audit.specs.declared.event.Named.{Named}
 use Rattle.tac_audit.specs.declared.event.Origin.{Origin}
 use Rattle.tac_audit.specs.declared.notice.Notice.{Notice}
@@ -11,7 +11,7 @@ use Rattle.tac_journal.specs.Log.{Keeping}
 -- time. Where there is no list of them, no notice is refused
 abbrev pub Logs : Option (List (List ℕ)) → List Notice → Option Notice → Type 0
 Logs None told refused = refused ≡ None
-Logs (Some lines) told refused = (origin : Origin) × AreLines origin (noted_of_each [] told) lines
+Logs (Some lines) told refused = (origin : Origin) × AreLines origin (noted_of_each told) lines
 
 -- the log, if one is kept, took the lines of these notices of a connection of an origin that is
 -- named so, in their order, each at some time
@@ -19,4 +19,4 @@ abbrev pub HasLogged : Keeping → Option Named → List Notice → Type 0
 HasLogged log who told =
     (log.is_kept ≡ false)
     ⊎ ((origin : Origin) × (origin.named ≡ who) × (lines : List (List ℕ))
-    × AreLines origin (noted_of_each [] told) lines × All log.took lines)
+    × AreLines origin (noted_of_each told) lines × All log.took lines)

@@ -33,7 +33,7 @@ module _ {R L : Type 0} (keeping : L → Keeping) where
   WriterRefuses was lines now = now ≡ was
 
   abbrev pub place_of : DeviceLog R (LogWriter R L) → device.Place (LogWriter R L)
-  place_of log = record { origin = log.origin; logins = log.logins; log = log.log }
+  place_of log = record { origin = log.origin; log = log.log }
 
   -- the witness of a connection took this notice, or refused it, by its log
   abbrev pub Takes : DeviceWitness R L → Notice → DeviceWitness R L → Type 0

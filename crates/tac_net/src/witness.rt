@@ -12,8 +12,6 @@ use std::net::{IpAddr, SocketAddr};
 use std::sync::Wait;
 use std::time::Clock;
 use tac_audit::{Named, Notice, Origin, Refused, Witness};
-use tac_authen::AuthenStatus;
-use tac_conn::{Reply, ReplyBody};
 use tac_journal::{DeviceLog, Log, LogFiles, LogWriter, Moments};
 use tac_status::{Request, RequestCounts};
 
@@ -49,15 +47,13 @@ pub(crate) struct DeviceWitness<'a, R, L> {
     last: Last,
 }
 
-// What a reply does (RFC 8907, section 5.2).
-fn last_of(reply: &Reply) -> Last {
-    let ReplyBody::Authentication(reply) = &reply.body else {
-        return Last::Other;
-    };
-    match reply.status {
-        AuthenStatus::GETUSER | AuthenStatus::GETPASS => Last::Asks,
-        AuthenStatus::FAIL => Last::Fails,
-        _ => Last::Other,
+// What the reply to a packet does that counts so (RFC 8907, section 5.2): that of a login which goes
+// on asks for more, and counts as nothing yet.
+fn last_of(request: Option<Request>) -> Last {
+    match request {
+        None => Last::Asks,
+        Some(Request::LoginFail) => Last::Fails,
+        Some(_) => Last::Other,
     }
 }
 
@@ -157,13 +153,13 @@ where
 
     // Something was told: if it is of a first packet whose body is none of its type, its key isn't
     // the device's (RFC 8907, section 4.5).
-    fn judge_first(&mut self, notice: &Notice)
+    fn judge_first(&mut self, request: Option<Request>)
         ensures { self.new.log ≡ self.old.log }
     {
         let Some(newcomer) = self.newcomer.take() else {
             return;
         };
-        if Request::of(notice) == Some(Request::BadBody) {
+        if request == Some(Request::BadBody) {
             self.counts.note_misfit();
             newcomer
                 .misfits
@@ -171,12 +167,12 @@ where
         }
     }
 
-    // Something was told: the last reply is as it was where there is no other.
-    fn follow(&mut self, notice: &Notice)
+    // Something was told that counts so: the last reply is as it was where there is no other.
+    fn follow(&mut self, notice: &Notice, request: Option<Request>)
         ensures { self.new.log ≡ self.old.log }
     {
-        if let Notice::Packet(_, Some(reply)) = notice {
-            self.last = last_of(reply);
+        if let Notice::Packet(_, Some(_)) = notice {
+            self.last = last_of(request);
             self.visits.replied(self.has_failed());
         }
     }
@@ -196,9 +192,10 @@ where
         if let Some(log) = &mut self.log {
             log.tell(notice)?;
         }
-        self.counts.note(notice);
-        self.judge_first(notice);
-        self.follow(notice);
+        let request = Request::of(notice);
+        self.counts.note(request);
+        self.judge_first(request);
+        self.follow(notice, request);
         Ok(())
     }
 }

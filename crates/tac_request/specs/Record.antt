@@ -8,7 +8,6 @@ use Rattle.std.specs.Option.{option_map}
 use Rattle.std.specs.Str.Parse.{digits_value}
 use Rattle.tac_wire.specs.Flag.{has_flag}
 use Rattle.basics.specs.Symbol.{is_text}
-use Rattle.tac_request.specs.declared.acct_request.AcctRequest.{AcctRequest}
 use Rattle.tac_request.specs.declared.record.AcctKind.{AcctKind}
 use Rattle.tac_request.specs.declared.record.AcctKind.TheVariants.{Begin, Stop, Watch, Update}
 use Rattle.tac_request.specs.declared.record.Record.{Record}
@@ -71,12 +70,12 @@ abbrev pub text_line : Option (List ℕ) → Option (List ℕ)
 text_line None = None
 text_line (Some line) = if is_text line then Some line else None
 
--- what is kept of a request that tells of this kind
-abbrev pub record_of : AcctRequest → AcctKind → Record
-record_of request kind = record {
-  user = request.user;
+-- what is kept of a request of this user with these arguments that tells of this kind
+abbrev pub record_of : List ℕ → List (List ℕ) → AcctKind → Record
+record_of user args kind = record {
+  user = user;
   kind = kind;
-  task = task_of request.args;
-  elapsed = elapsed_of request.args;
-  line = text_line (command_of request.args);
+  task = task_of args;
+  elapsed = elapsed_of args;
+  line = text_line (command_of args);
 }

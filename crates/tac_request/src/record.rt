@@ -7,7 +7,6 @@ ghost use Rattle.std.specs.List.{list_all};
 ghost use Rattle.tac_request.specs.Record.{kind_of, seconds_of, first_under, task_of, elapsed_of};
 ghost use Rattle.tac_request.specs.Record.{command_of, text_line, record_of};
 
-use crate::acct_request::AcctRequest;
 use crate::line::{command_line, first_value};
 use basics::{Bytes, StructuralEq, is_text};
 use std::alloc::{AllocError, Global};
@@ -140,7 +139,8 @@ fn printable_line(alloc: Global, args: &[Bytes]) -> Result<Option<Bytes>, AllocE
 }
 
 impl Record {
-    /// What is kept of a request that tells of this kind. The error means that memory ran out.
+    /// What is kept of a request of this user with these arguments that tells of this kind. The
+    /// error means that memory ran out.
     ///
     /// Of the arguments (RFC 8907, section 8.3) the first of a name counts, and one without `=` or
     /// `*` has no name. An `elapsed_time` can be used if it is one or more decimal digits, also
@@ -149,26 +149,40 @@ impl Record {
     /// than `shell`.
     pub fn from_request(
         alloc: Global,
-        request: AcctRequest,
+        user: Bytes,
+        args: &[Bytes],
         kind: AcctKind,
     ) -> Result<Record, AllocError>
-        ensures value { IfOk result (λ kept. kept ≡ record_of request kind) }
+        ensures value { IfOk result (λ kept. kept ≡ record_of user args.now kind) }
         // Seconds that a client printed are read as themselves.
         ensures printed { (n : ℕ) → n < 2 ^ 32 →
-            first_under ELAPSED_TIME.now request.args ≡ Some (decimal n) →
+            first_under ELAPSED_TIME.now args.now ≡ Some (decimal n) →
             IfOk result (λ kept. kept.elapsed ≡ n) }
     {
-        let args = request.args.as_slice();
         let task = task_id(alloc, args)?;
         let elapsed = elapsed_time(args);
         let line = printable_line(alloc, args)?;
         Ok(Record {
-            user: request.user,
+            user,
             kind,
             task,
             elapsed,
             line,
         })
+    }
+
+    /// The user and the task.
+    pub fn into_texts(self) -> (Bytes, Bytes)
+        ensures { result ≡ (self.user, self.task) }
+    {
+        let Record {
+            user,
+            kind: _,
+            task,
+            elapsed: _,
+            line: _,
+        } = self;
+        (user, task)
     }
 
     /// An equal record. The error means that memory ran out.

@@ -12,6 +12,8 @@ use Rattle.tac_conn.specs.declared.ask.Slot.{Slot}
 use Rattle.tac_conn.specs.declared.outcome.Outcome.{Outcome}
 use Rattle.tac_conn.specs.declared.outcome.Outcome.TheVariants as comes_to
 use Rattle.tac_conn.specs.declared.packet.Packet.{Packet}
+use Rattle.tac_conn.specs.declared.reading.Received.{Received}
+use Rattle.tac_conn.specs.Received.{received, without_ask}
 use Rattle.tac_conn.specs.declared.reply.Reply.{Reply as ReplyValue}
 use Rattle.tac_conn.specs.Packet.{clear, sent, IsWhole}
 use Rattle.tac_conn.specs.Reply.{packet_of, answer_body}
@@ -49,11 +51,11 @@ step_says meaning (comes_to.Asks ask slot) = refl
 step_says meaning comes_to.Silent = refl
 step_says meaning comes_to.Close = refl
 
-same_step : (packet other : Packet) (it said : Step) → turns.Packet packet it ≡ turns.Packet other said → it ≡ said
+same_step : (packet other : Received) (it said : Step) → turns.Packet packet it ≡ turns.Packet other said → it ≡ said
 same_step packet other it said e = cc
 
 -- after the last packet nothing is done for a packet
-no_packet : (packet : Packet) (it : Step) (tail : Tail) → turns.Packet packet it ≡ tail_turn tail → ⊥
+no_packet : (packet : Received) (it : Step) (tail : Tail) → turns.Packet packet it ≡ tail_turn tail → ⊥
 no_packet packet it (open_end rest) e = cc
 no_packet packet it (fault refused) e = cc
 
@@ -77,7 +79,7 @@ module _ (door : Door) (bytes : List ℕ) (taken : ℕ) where
     pub left : drop taken (cut door bytes).packets ≡ frame ∷ more
     pub says : StepSays meaning it (says meaning (outcome (packets_of door (take taken (cut door bytes).packets)) (clear door frame)))
 
-  next_by : (meaning : Meaning) (packet : Packet) (it : Step) (frames : List Frame) → drop taken (cut door bytes).packets ≡ frames
+  next_by : (meaning : Meaning) (packet : Received) (it : Step) (frames : List Frame) → drop taken (cut door bytes).packets ≡ frames
       → turns.Packet packet it ≡ turn_by door (packets_of door (take taken (cut door bytes).packets)) frames (cut door bytes).tail → IsNext meaning it
   next_by meaning packet it [] e is = absurd (no_packet packet it (cut door bytes).tail is)
   next_by meaning packet it (frame ∷ more) e is =
@@ -86,16 +88,16 @@ module _ (door : Door) (bytes : List ℕ) (taken : ℕ) where
         frame = frame;
         more = more;
         left = e;
-        says = subst (λ (s : Step). StepSays meaning s (says meaning said)) (sym (same_step packet (clear door frame) it (step_of said) is)) (step_says meaning said);
+        says = subst (λ (s : Step). StepSays meaning s (says meaning said)) (sym (same_step packet (without_ask (step_of said) (received (packets_of door (take taken (cut door bytes).packets)) (clear door frame))) it (step_of said) is)) (step_says meaning said);
       }
 
-  next_is : (meaning : Meaning) (packet : Packet) (it : Step) → turns.Packet packet it ≡ next_turn door bytes taken → IsNext meaning it
+  next_is : (meaning : Meaning) (packet : Received) (it : Step) → turns.Packet packet it ≡ next_turn door bytes taken → IsNext meaning it
   unfolding next_turn
   next_is meaning packet it is = next_by meaning packet it (drop taken (cut door bytes).packets) refl is
 
   -- a turn without a packet: none is left
   abbrev Lacks : Turn → Type 0
-  Lacks turn = (packet : Packet) (it : Step) → turn ≡ turns.Packet packet it → ⊥
+  Lacks turn = (packet : Received) (it : Step) → turn ≡ turns.Packet packet it → ⊥
 
   none_by : (turn : Turn) (frames : List Frame) → drop taken (cut door bytes).packets ≡ frames → turn ≡ turn_by door (packets_of door (take taken (cut door bytes).packets)) frames (cut door bytes).tail → Lacks turn
       → (drop taken (cut door bytes).packets ≡ []) × (turn ≡ tail_turn (cut door bytes).tail)
@@ -145,7 +147,7 @@ module _ (door : Door) (bytes : List ℕ) (taken : ℕ) where
     }
 
   -- a reply is sent
-  pub goes_reply : (meaning : Meaning) (old new : List ℕ) (stream : Stream) (packet : Packet) (reply : ReplyValue) (ends : Bool) → turns.Packet packet (Reply reply ends) ≡ next_turn door bytes taken
+  pub goes_reply : (meaning : Meaning) (old new : List ℕ) (stream : Stream) (packet : Received) (reply : ReplyValue) (ends : Bool) → turns.Packet packet (Reply reply ends) ≡ next_turn door bytes taken
       → new ≡ old ++ sent door (packet_of reply) → IsWhole (sent door (packet_of reply)) → closed_of stream ≡ ends → pending_of stream ≡ None → Stands door stream bytes (suc taken)
       → Goes (after_reply ends) door meaning meaning old new stream bytes taken
   goes_reply meaning old new stream packet reply ends is added whole closed free stands =
@@ -153,7 +155,7 @@ module _ (door : Door) (bytes : List ℕ) (taken : ℕ) where
       served meaning meaning old new stream f.frame f.more f.left (packet_of reply ∷ []) ends f.says (sends_one door old new reply added whole) closed free stands
 
   -- the desk has answered
-  pub goes_answer : (was now : Meaning) (old new : List ℕ) (stream : Stream) (packet : Packet) (ask : Ask) (slot : Slot) (reply : ReplyValue) (ends : Bool) → turns.Packet packet (Asks ask slot) ≡ next_turn door bytes taken
+  pub goes_answer : (was now : Meaning) (old new : List ℕ) (stream : Stream) (packet : Received) (ask : Ask) (slot : Slot) (reply : ReplyValue) (ends : Bool) → turns.Packet packet (Asks ask slot) ≡ next_turn door bytes taken
       → now ≡ (asked was ask).meaning → reply ≡ reply_in slot (answer_body (asked was ask).answer) → ends ≡ not slot.single
       → new ≡ old ++ sent door (packet_of reply) → IsWhole (sent door (packet_of reply)) → closed_of stream ≡ ends → pending_of stream ≡ None → Stands door stream bytes (suc taken)
       → Goes (after_reply ends) door was now old new stream bytes taken
@@ -162,7 +164,7 @@ module _ (door : Door) (bytes : List ℕ) (taken : ℕ) where
       served was now old new stream f.frame f.more f.left (packet_of reply ∷ []) ends (f.says ∙ rw (told, closing, same) refl) (sends_one door old new reply added whole) closed free stands
 
   -- nothing is sent
-  pub goes_silent : (meaning : Meaning) (old new : List ℕ) (stream : Stream) (packet : Packet) → turns.Packet packet Silent ≡ next_turn door bytes taken
+  pub goes_silent : (meaning : Meaning) (old new : List ℕ) (stream : Stream) (packet : Received) → turns.Packet packet Silent ≡ next_turn door bytes taken
       → new ≡ old → closed_of stream ≡ false → pending_of stream ≡ None → Stands door stream bytes (suc taken) → Goes (Continue tt) door meaning meaning old new stream bytes taken
   goes_silent meaning old new stream packet is added closed free stands =
       let f = next_is meaning packet Silent is in
@@ -194,7 +196,7 @@ module _ (door : Door) (bytes : List ℕ) (taken : ℕ) where
       by_tail (fault refused) e = cc
 
   -- a packet closes the connection without a reply
-  closes_packet : (meaning : Meaning) (old new : List ℕ) (stream : Stream) (packet : Packet) → turns.Packet packet Close ≡ next_turn door bytes taken → new ≡ old → Goes (Break true) door meaning meaning old new stream bytes taken
+  closes_packet : (meaning : Meaning) (old new : List ℕ) (stream : Stream) (packet : Received) → turns.Packet packet Close ≡ next_turn door bytes taken → new ≡ old → Goes (Break true) door meaning meaning old new stream bytes taken
   closes_packet meaning old new stream packet is added =
       let f = next_is meaning packet Close is in
       record {

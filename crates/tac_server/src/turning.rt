@@ -18,7 +18,7 @@ use crate::noticed::Noticed;
 use std::alloc::AllocError;
 use std::ops::ControlFlow;
 use tac_audit::{Notice, Witness};
-use tac_conn::{Ask, Packet, Reply, SENT_MAX, Slot, Step};
+use tac_conn::{Ask, Received, Reply, SENT_MAX, Slot, Step};
 use tac_desk::Desk;
 use tac_stream::{Stream, Turn};
 use tac_wire::Door;
@@ -45,7 +45,7 @@ fn tell<W: Witness<Noticed>>(witness: &mut W, conn: u32, notice: Notice) {
 fn add<W: Witness<Noticed>>(
     door: &Door,
     conn: u32,
-    packet: Packet,
+    received: Received,
     reply: Reply,
     out: &mut Vec<u8>,
     witness: &mut W,
@@ -54,7 +54,7 @@ fn add<W: Witness<Noticed>>(
     ensures bytes { out.new.items ≡ out.old.items ++ sent door.now (packet_of reply) }
     ensures whole { IsWhole (sent door.now (packet_of reply)) }
 {
-    let noticed = Noticed::On(conn, Notice::Packet(packet, Some(reply)));
+    let noticed = Noticed::On(conn, Notice::Packet(received, Some(reply)));
     let _ = witness.tell(&noticed);
     let Noticed::On(_, Notice::Packet(_, Some(reply))) = &noticed else {
         unreachable!()
@@ -110,22 +110,22 @@ fn take_turn<D: Desk, W: Witness<Noticed>>(
 {
     out.reserve(SENT_MAX)?;
     match stream.next(door)? {
-        Turn::Packet(packet, step) => match step {
+        Turn::Packet(received, step) => match step {
             Step::Reply(reply, closes) => {
-                add(door, conn, packet, reply, out, witness);
+                add(door, conn, received, reply, out, witness);
                 Ok(after_reply(closes))
             }
             Step::Asks(ask, slot) => {
                 let (reply, closes) = answer_to(desk, stream, &ask, slot)?;
-                add(door, conn, packet, reply, out, witness);
+                add(door, conn, received.with_ask(ask), reply, out, witness);
                 Ok(after_reply(closes))
             }
             Step::Silent => {
-                tell(witness, conn, Notice::Packet(packet, None));
+                tell(witness, conn, Notice::Packet(received, None));
                 Ok(ControlFlow::Continue(()))
             }
             Step::Close => {
-                tell(witness, conn, Notice::Packet(packet, None));
+                tell(witness, conn, Notice::Packet(received, None));
                 Ok(ControlFlow::Break(true))
             }
         },

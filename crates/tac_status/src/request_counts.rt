@@ -1,16 +1,14 @@
-//! What devices ask for, by what they are answered.
+//! What devices ask for, by what their packets were read as and what they are answered.
 
 ghost use Rattle.std.specs.Prelude.{◌≡◌};
+ghost use Rattle.std.specs.Option.{option_copied};
 ghost use Rattle.tac_status.specs.Counting as counting;
 
 use crate::counts::Count;
 use tac_audit::Notice;
 use tac_authen::{AuthenReply, AuthenStatus};
-use tac_conn::{Reply, ReplyBody};
+use tac_conn::{Reading, Reply, ReplyBody};
 use tac_request::{AcctReply, AcctStatus, AuthorReply, AuthorStatus};
-
-/// The text of a reply to a packet whose body is invalid.
-const BAD_BODY: &[u8] = b"bad body";
 
 /// A request, by its type and its status, or a packet that is refused, by why it is
 /// (docs/AUDIT.md).
@@ -68,14 +66,13 @@ impl Request {
     }
 }
 
-// A login at its last reply; none while it goes on.
+// A login at its last reply.
 fn login_of(reply: &AuthenReply) -> Option<Request>
     ensures { result ≡ counting.login_as reply.now }
 {
     match reply.status {
         AuthenStatus::PASS => Some(Request::LoginPass),
         AuthenStatus::FAIL => Some(Request::LoginFail),
-        AuthenStatus::ERROR if reply.msg.as_slice() == BAD_BODY => Some(Request::BadBody),
         AuthenStatus::ERROR => Some(Request::LoginError),
         _ => None,
     }
@@ -86,9 +83,7 @@ fn command_of(reply: &AuthorReply) -> Request
 {
     match reply.status {
         AuthorStatus::PASS_ADD => Request::CommandPassAdd,
-        AuthorStatus::FAIL => Request::CommandFail,
-        // no other reply of authorisation is an ERROR
-        _ => Request::BadBody,
+        _ => Request::CommandFail,
     }
 }
 
@@ -97,11 +92,11 @@ fn account_of(reply: &AcctReply) -> Request
 {
     match reply.status {
         AcctStatus::SUCCESS => Request::AccountSuccess,
-        _ if reply.msg.as_slice() == BAD_BODY => Request::BadBody,
         _ => Request::AccountError,
     }
 }
 
+// A request by its reply.
 fn answered_by(reply: &Reply) -> Option<Request>
     ensures { result ≡ counting.answered_as reply.now.body }
 {
@@ -109,18 +104,40 @@ fn answered_by(reply: &Reply) -> Option<Request>
         ReplyBody::Authentication(reply) => login_of(reply),
         ReplyBody::Authorisation(reply) => Some(command_of(reply)),
         ReplyBody::Accounting(reply) => Some(account_of(reply)),
-        ReplyBody::Empty => Some(Request::UnservedType),
+        ReplyBody::Empty => None,
+    }
+}
+
+// A request that has this reply, or none.
+fn replied(reply: Option<&Reply>) -> Option<Request>
+    ensures { result ≡ counting.replied_as (option_copied reply.entry) }
+{
+    match reply {
+        Some(reply) => answered_by(reply),
+        None => None,
+    }
+}
+
+// A packet that was read so, and has this reply, or none.
+fn packet_of(reading: &Reading, reply: Option<&Reply>) -> Option<Request>
+    ensures { result ≡ counting.packet_as reading.now (option_copied reply.entry) }
+{
+    match reading {
+        Reading::GoesOn => None,
+        Reading::Login(_) | Reading::Command { .. } | Reading::Account { .. } => replied(reply),
+        Reading::BadBody => Some(Request::BadBody),
+        Reading::Unserved => Some(Request::UnservedType),
+        Reading::OutOfTurn | Reading::Aborted => Some(Request::Unanswered),
     }
 }
 
 impl Request {
-    /// What a witness of a connection is told of; none of a question for a name or a password.
+    /// What a witness of a connection is told of; none of a login that goes on.
     pub fn of(notice: &Notice) -> Option<Request>
         ensures { result ≡ counting.counted_as notice.now }
     {
         match notice {
-            Notice::Packet(_, Some(reply)) => answered_by(reply),
-            Notice::Packet(_, None) => Some(Request::Unanswered),
+            Notice::Packet(received, reply) => packet_of(&received.reading, reply.as_ref()),
             Notice::BadHeader(_) => Some(Request::BadHeader),
         }
     }
@@ -177,9 +194,9 @@ impl RequestCounts {
         }
     }
 
-    /// A witness of a connection was told this, and its log, if there is one, took it.
-    pub fn note(&self, notice: &Notice) {
-        if let Some(request) = Request::of(notice) {
+    /// A witness of a connection was told what counts so, and its log, if there is one, took it.
+    pub fn note(&self, request: Option<Request>) {
+        if let Some(request) = request {
             self.count(request).add(1);
         }
     }

@@ -13,6 +13,8 @@ use Rattle.tac_conn.specs.declared.step.Step.{Step}
 use Rattle.tac_conn.specs.Packet.{clear}
 use Rattle.tac_conn.specs.History.{outcome}
 use Rattle.tac_conn.specs.Standing as conns
+use Rattle.tac_conn.specs.declared.reading.Received.{Received}
+use Rattle.tac_conn.specs.Received.{received, without_ask}
 use Rattle.tac_stream.specs.declared.stream.Stream.{Stream}
 use Rattle.tac_stream.specs.declared.turn.Turn.{Turn}
 use Rattle.tac_stream.specs.declared.turn.Turn.TheVariants.{Packet as Taken, Need, Refused, Close}
@@ -191,10 +193,11 @@ module _ (door : Door) (items : (bytes : List ℕ) → cut door bytes ≡ parts_
     packet_within = (next_of_list taken (cut door bytes).packets frame (cut door found.0).packets first_left).2
 
     -- a packet is taken
-    pub packet_next : (packet : Packet) (step : Step) → packet ≡ clear door frame → step ≡ conns.step_of (outcome (packets_of door (take taken (cut door bytes).packets)) (clear door frame))
-        → Taken packet step ≡ next_turn door bytes taken
+    pub packet_next : (it : Received) (step : Step) → it ≡ without_ask step (received (packets_of door (take taken (cut door bytes).packets)) (clear door frame))
+        → step ≡ conns.step_of (outcome (packets_of door (take taken (cut door bytes).packets)) (clear door frame))
+        → Taken it step ≡ next_turn door bytes taken
     unfolding next_turn
-    packet_next packet step same is = rw (first_left, is, same) refl
+    packet_next it step same is = rw (first_left, same, is) refl
 
     pub packet_stands : (new : Stream) → new.framer ≡ left_of door old.framer → conns.Stands new.conn (clear door frame ∷ packets_of door (take taken (cut door bytes).packets))
         → Stands door new bytes (suc taken)

@@ -36,14 +36,14 @@ pub record Stands (door : Door) (stream : Stream) (bytes : List ℕ) (taken : �
 -- what it represents after this turn: the packet was taken, if there was one; closed, it represents
 -- nothing
 abbrev pub StandsAfter : Turn → Door → Stream → List ℕ → ℕ → Type 0
-StandsAfter (Packet packet step) door stream bytes taken = Stands door stream bytes (suc taken)
+StandsAfter (Packet received step) door stream bytes taken = Stands door stream bytes (suc taken)
 StandsAfter Need door stream bytes taken = Stands door stream bytes taken
 StandsAfter (Refused header) door stream bytes taken = Unit {0}
 StandsAfter Close door stream bytes taken = Unit {0}
 
 -- an ask waits for its answer, and where nothing is asked nothing waits
 abbrev pub Waits : Turn → Stream → Type 0
-Waits (Packet packet step) stream = pending_of stream ≡ conns.slot_in step
+Waits (Packet received step) stream = pending_of stream ≡ conns.slot_in step
 Waits Need stream = Unit {0}
 Waits (Refused header) stream = Unit {0}
 Waits Close stream = Unit {0}
@@ -58,7 +58,7 @@ unread_of stream = unread_len stream.framer
 
 -- a packet that is taken is no longer held
 abbrev pub Shortens : Turn → Stream → Stream → Type 0
-Shortens (Packet packet step) old new = unread_of new < unread_of old
+Shortens (Packet received step) old new = unread_of new < unread_of old
 Shortens Need old new = Unit {0}
 Shortens (Refused header) old new = Unit {0}
 Shortens Close old new = Unit {0}

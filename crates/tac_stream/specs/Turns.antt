@@ -11,6 +11,7 @@ use Rattle.tac_conn.specs.declared.step.Step.TheVariants as steps
 use Rattle.tac_conn.specs.Packet.{clear}
 use Rattle.tac_conn.specs.History.{outcome}
 use Rattle.tac_conn.specs.Standing as conns
+use Rattle.tac_conn.specs.Received.{received, without_ask}
 use Rattle.tac_stream.specs.declared.turn.Turn.{Turn}
 use Rattle.tac_stream.specs.declared.turn.Turn.TheVariants as turns
 
@@ -23,9 +24,12 @@ abbrev pub closed_by : Tail → Bool
 closed_by (open_end bytes) = false
 closed_by (fault refused) = true
 
--- a packet that came after these, and what is done for it
+-- what a packet was read as that came after these, and what is done for it; what its ask has is
+-- there alone
 abbrev pub packet_turn : List Packet → Packet → Turn
-packet_turn earlier packet = turns.Packet packet (conns.step_of (outcome earlier packet))
+packet_turn earlier packet =
+    let step = conns.step_of (outcome earlier packet) in
+    turns.Packet (without_ask step (received earlier packet)) step
 
 -- after the last packet: more bytes have to come first, unless the next header is refused
 abbrev pub tail_turn : Tail → Turn

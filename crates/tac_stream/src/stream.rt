@@ -97,7 +97,7 @@ impl Stream {
             Next::Ended => return Ok(Turn::Close),
         };
         match self.conn.take(door, frame) {
-            Ok((packet, step)) => Ok(Turn::Packet(packet, step)),
+            Ok((received, step)) => Ok(Turn::Packet(received, step)),
             Err(error) => Err(error),
         }
     }

@@ -3,14 +3,14 @@
 ghost use Rattle.std.specs.Prelude.{◌≡◌};
 ghost use Rattle.tac_stream.specs.Turns as turns;
 
-use tac_conn::{Packet, Step};
+use tac_conn::{Received, Step};
 use tac_wire::Header;
 
 /// What is to be done next on a connection.
 #[derive(Drop)]
 pub enum Turn {
-    /// A packet was taken, which is here without its pad, and this is done for it.
-    Packet(Packet, Step),
+    /// A packet was taken, which was read so, and this is done for it.
+    Packet(Received, Step),
     /// All whole packets were taken: more bytes have to come first.
     Need,
     /// This header is refused. Nothing is sent, and the connection closes.

@@ -7,6 +7,8 @@ use Rattle.tac_conn.specs.declared.ask.Answer.{Answer}
 use Rattle.tac_conn.specs.declared.outcome.Outcome.{Outcome}
 use Rattle.tac_conn.specs.declared.outcome.Outcome.TheVariants as comes_to
 use Rattle.tac_conn.specs.declared.packet.Packet.{Packet}
+use Rattle.tac_conn.specs.declared.reading.Received.{Received}
+use Rattle.tac_conn.specs.Received.{received}
 use Rattle.tac_conn.specs.declared.reply.Reply.{Reply as ReplyValue}
 use Rattle.tac_conn.specs.Packet.{clear}
 use Rattle.tac_conn.specs.Reply.{packet_of, answer_body}
@@ -24,7 +26,7 @@ packets_sent : List Sending → List Packet
 packets_sent sendings = map (λ sending. sending.packet) sendings
 
 -- of one packet, and those after it
-module _ (packet : Packet) (tells : List Answer → List Notice) (sends : List Answer → List Sending) (same : (left : List Answer) → packets_told (tells left) ≡ packets_sent (sends left)) where
+module _ (packet : Received) (tells : List Answer → List Notice) (sends : List Answer → List Sending) (same : (left : List Answer) → packets_told (tells left) ≡ packets_sent (sends left)) where
   then_same : (reply : ReplyValue) (closes : Bool) (left : List Answer)
       → packet_of reply ∷ packets_told (if closes then [] else tells left) ≡ packet_of reply ∷ packets_sent (if closes then [] else sends left)
   unfolding packets_told packets_sent
@@ -56,7 +58,7 @@ all_same : (door : Door) (earlier : List Packet) (frames : List Frame) (tail : T
 unfolding notices_to served_to
 all_same door earlier [] tail answers = tail_same tail
 all_same door earlier (frame ∷ frames) tail answers =
-    one_same (clear door frame) (λ left. notices_to door (clear door frame ∷ earlier) frames tail left) (λ left. served_to door (clear door frame ∷ earlier) frames left)
+    one_same (received earlier (clear door frame)) (λ left. notices_to door (clear door frame ∷ earlier) frames tail left) (λ left. served_to door (clear door frame ∷ earlier) frames left)
     (λ left. all_same door (clear door frame ∷ earlier) frames tail left) (outcome earlier (clear door frame)) answers
 
 pub replies_law : ToldLaw

@@ -13,6 +13,8 @@ use Rattle.tac_conn.specs.declared.ask.Slot.{Slot}
 use Rattle.tac_conn.specs.declared.outcome.Outcome.{Outcome}
 use Rattle.tac_conn.specs.declared.outcome.Outcome.TheVariants as comes_to
 use Rattle.tac_conn.specs.declared.packet.Packet.{Packet}
+use Rattle.tac_conn.specs.declared.reading.Received.{Received}
+use Rattle.tac_conn.specs.Received.{received, without_ask, with_ask, IsWholeWith}
 use Rattle.tac_conn.specs.declared.reply.Reply.{Reply as ReplyValue}
 use Rattle.tac_conn.specs.Packet.{clear, sent}
 use Rattle.tac_conn.specs.Reply.{packet_of, answer_body}
@@ -47,7 +49,7 @@ ServesBy (Reply reply ends) came =
     ((answers : List Answer) (later : List Answer → List Sending) → served_for came answers later ≡ plain reply ∷ (if ends then [] else later answers))
     × ((later : List Ask) → asked_by came later ≡ (if ends then [] else later))
     × (outcome_closes came ≡ ends)
-    × ((packet : Packet) (answers : List Answer) (later : List Answer → List Notice) → notices_for packet came answers later ≡ replied packet reply ∷ (if ends then [] else later answers))
+    × ((packet : Received) (answers : List Answer) (later : List Answer → List Notice) → notices_for packet came answers later ≡ replied packet reply ∷ (if ends then [] else later answers))
 ServesBy (Asks ask slot) came = came ≡ comes_to.Asks ask slot
 ServesBy Silent came = came ≡ comes_to.Silent
 ServesBy Close came = came ≡ comes_to.Close
@@ -59,34 +61,36 @@ serves_by (comes_to.Asks ask slot) = refl
 serves_by comes_to.Silent = refl
 serves_by comes_to.Close = refl
 
-same_step : (packet other : Packet) (it said : Step) → turns.Packet packet it ≡ turns.Packet other said → it ≡ said
+same_step : (packet other : Received) (it said : Step) → turns.Packet packet it ≡ turns.Packet other said → it ≡ said
 same_step packet other it said e = cc
 
-same_packet : (packet other : Packet) (it said : Step) → turns.Packet packet it ≡ turns.Packet other said → packet ≡ other
+same_packet : (packet other : Received) (it said : Step) → turns.Packet packet it ≡ turns.Packet other said → packet ≡ other
 same_packet packet other it said e = cc
 
 -- after the last packet nothing is done for a packet
-no_packet : (packet : Packet) (it : Step) (tail : Tail) → turns.Packet packet it ≡ tail_turn tail → ⊥
+no_packet : (packet : Received) (it : Step) (tail : Tail) → turns.Packet packet it ≡ tail_turn tail → ⊥
 no_packet packet it (open_end rest) e = cc
 no_packet packet it (fault refused) e = cc
 
 -- the next packet, for which this is done
-pub record IsNext (door : Door) (bytes : List ℕ) (taken : ℕ) (packet : Packet) (it : Step) : Type 0 where
+pub record IsNext (door : Door) (bytes : List ℕ) (taken : ℕ) (packet : Received) (it : Step) : Type 0 where
   pub frame : Frame
   pub more : List Frame
   pub left : drop taken (cut door bytes).packets ≡ frame ∷ more
-  pub same : packet ≡ clear door frame
+  pub same : packet ≡ without_ask it (received (packets_of door (take taken (cut door bytes).packets)) (clear door frame))
   pub serves : ServesBy it (outcome (packets_of door (take taken (cut door bytes).packets)) (clear door frame))
 
-pub next_is : (door : Door) (bytes : List ℕ) (taken : ℕ) (packet : Packet) (it : Step) → IsTurn door bytes taken (turns.Packet packet it) → IsNext door bytes taken packet it
+pub next_is : (door : Door) (bytes : List ℕ) (taken : ℕ) (packet : Received) (it : Step) → IsTurn door bytes taken (turns.Packet packet it) → IsNext door bytes taken packet it
 next_is door bytes taken packet it (inl f) =
     let came = outcome (packets_of door (take taken (cut door bytes).packets)) (clear door f.frame) in
+    let whole = received (packets_of door (take taken (cut door bytes).packets)) (clear door f.frame) in
+    let steps : it ≡ step_of came = same_step packet (without_ask (step_of came) whole) it (step_of came) f.is in
     record {
       frame = f.frame;
       more = f.more;
       left = f.left;
-      same = same_packet packet (clear door f.frame) it (step_of came) f.is;
-      serves = subst (λ (s : Step). ServesBy s came) (sym (same_step packet (clear door f.frame) it (step_of came) f.is)) (serves_by came);
+      same = same_packet packet (without_ask (step_of came) whole) it (step_of came) f.is ∙ ap (λ (s : Step). without_ask s whole) (sym steps);
+      serves = subst (λ (s : Step). ServesBy s came) (sym steps) (serves_by came);
     }
 next_is door bytes taken packet it (inr n) = absurd (no_packet packet it (cut door bytes).tail n.is)
 
@@ -152,7 +156,7 @@ module _ (door : Door) (earlier : List Packet) (frame : Frame) where
 
   notices_first : (more : List Frame) (tail : Tail) (answers : List Answer)
       → notices_to door earlier (frame ∷ more) tail answers
-      ≡ notices_for (clear door frame) (outcome earlier (clear door frame)) answers (λ left. notices_to door (clear door frame ∷ earlier) more tail left)
+      ≡ notices_for (received earlier (clear door frame)) (outcome earlier (clear door frame)) answers (λ left. notices_to door (clear door frame ∷ earlier) more tail left)
   unfolding notices_to
   notices_first more tail answers = refl
 
@@ -167,22 +171,22 @@ module _ (door : Door) (earlier : List Packet) (frame : Frame) where
         → notices_to door earlier (frame ∷ more) tail (answers_of made ++ later) ≡ notice ∷ (if ends then [] else notices_to door (clear door frame ∷ earlier) more tail later)
     pub bytes : bytes_told door (notice ∷ []) ≡ bytes_sent door (sending ∷ [])
 
-  said_plain : (reply : ReplyValue) (ends : Bool) → ServesBy (Reply reply ends) (outcome earlier (clear door frame)) → IsSaid [] (plain reply) (replied (clear door frame) reply) ends
+  said_plain : (reply : ReplyValue) (ends : Bool) → ServesBy (Reply reply ends) (outcome earlier (clear door frame)) → IsSaid [] (plain reply) (replied (received earlier (clear door frame)) reply) ends
   said_plain reply ends s = record {
     served = λ more later. served_first more later ∙ s.0 later (λ left. served_to door (clear door frame ∷ earlier) more left);
     asks = λ more. asks_first more ∙ s.1 (asks_in door (clear door frame ∷ earlier) more);
     carries = refl;
     closing = s.2;
-    tells = λ more tail later. notices_first more tail later ∙ s.3 (clear door frame) later (λ left. notices_to door (clear door frame ∷ earlier) more tail left);
+    tells = λ more tail later. notices_first more tail later ∙ s.3 (received earlier (clear door frame)) later (λ left. notices_to door (clear door frame ∷ earlier) more tail left);
     bytes = refl;
   }
 
   said_answer : (exchange : Exchange) (slot : Slot) → outcome earlier (clear door frame) ≡ comes_to.Asks exchange.ask slot
-      → IsSaid (exchange ∷ []) (carrying slot exchange.answer) (replied (clear door frame) (reply_in slot (answer_body exchange.answer))) (not slot.single)
+      → IsSaid (exchange ∷ []) (carrying slot exchange.answer) (replied (received earlier (clear door frame)) (reply_in slot (answer_body exchange.answer))) (not slot.single)
   said_answer exchange slot came = by_single slot.single refl
     where
       by_single : (single : Bool) → slot.single ≡ single
-          → IsSaid (exchange ∷ []) (carrying slot exchange.answer) (replied (clear door frame) (reply_in slot (answer_body exchange.answer))) (not slot.single)
+          → IsSaid (exchange ∷ []) (carrying slot exchange.answer) (replied (received earlier (clear door frame)) (reply_in slot (answer_body exchange.answer))) (not slot.single)
       by_single true e = record {
         served = λ more later. served_first more (exchange.answer ∷ later) ∙ rw (came, e) refl;
         asks = λ more. asks_first more ∙ rw (came, e) refl;
@@ -201,7 +205,7 @@ module _ (door : Door) (earlier : List Packet) (frame : Frame) where
       }
 
   -- nothing is sent for it
-  handled_silent : outcome earlier (clear door frame) ≡ comes_to.Silent → Handled door earlier (frame ∷ []) [] [] (unreplied (clear door frame) ∷ [])
+  handled_silent : outcome earlier (clear door frame) ≡ comes_to.Silent → Handled door earlier (frame ∷ []) [] [] (unreplied (received earlier (clear door frame)) ∷ [])
   handled_silent came = record {
     served = λ more later. served_first more later ∙ rw came refl;
     asks = λ more. asks_first more ∙ rw came refl;
@@ -503,32 +507,34 @@ module _ {S V : Type 0} (step : S → Exchange → S → Type 0) (rests : S → 
     replied_to (Err NoSeat) ends s r closed free stands = absurd r.1
 
   -- a reply is sent
-  pub turned_reply : (was : S) (seen sees : V) (old new : Option (List ℕ)) (stream : Stream) (packet : Packet) (reply : ReplyValue) (ends : Bool) (result : Result Went End)
+  pub turned_reply : (was : S) (seen sees : V) (old new : Option (List ℕ)) (stream : Stream) (packet : Received) (reply : ReplyValue) (ends : Bool) (result : Result Went End)
       → IsTurn door bytes taken (turns.Packet packet (Reply reply ends))
       → Answers result (takes seen (replied packet reply) sees) (refuses_notice seen (replied packet reply) sees) (sent door (packet_of reply)) ends old new
       → closed_of stream ≡ ends → pending_of stream ≡ None → Stands door stream bytes (suc taken) → Turns result was seen was sees old new stream
   turned_reply was seen sees old new stream packet reply ends result turn r closed free stands =
       let f = next_is door bytes taken packet (Reply reply ends) turn in
-      replied_to f.frame f.more f.left [] (plain reply) (replied (clear door f.frame) reply) was was seen sees old new stream refl result ends (said_plain door _ f.frame reply ends f.serves)
-      (subst (λ (p : Packet). Answers result (takes seen (replied p reply) sees) (refuses_notice seen (replied p reply) sees) (sent door (packet_of reply)) ends old new) f.same r) closed free stands
+      replied_to f.frame f.more f.left [] (plain reply) (replied (received (packets_of door (take taken (cut door bytes).packets)) (clear door f.frame)) reply) was was seen sees old new stream refl result ends (said_plain door _ f.frame reply ends f.serves)
+      (subst (λ (p : Received). Answers result (takes seen (replied p reply) sees) (refuses_notice seen (replied p reply) sees) (sent door (packet_of reply)) ends old new) f.same r) closed free stands
 
   -- the desk has answered
-  pub turned_answer : (was now : S) (seen sees : V) (old new : Option (List ℕ)) (stream : Stream) (packet : Packet) (ask : Ask) (slot : Slot) (segment place : ℕ) (answer : Answer) (given : ReplyValue × Bool) (result : Result Went End)
-      → IsTurn door bytes taken (turns.Packet packet (Asks ask slot)) → step was (record { ask = ask; segment = segment; place = place; answer = answer }) now → given ≡ (reply_in slot (answer_body answer), not slot.single)
-      → Answers result (takes seen (replied packet given.0) sees) (refuses_notice seen (replied packet given.0) sees) (sent door (packet_of given.0)) given.1 old new
+  pub turned_answer : (was now : S) (seen sees : V) (old new : Option (List ℕ)) (stream : Stream) (packet whole : Received) (ask : Ask) (slot : Slot) (segment place : ℕ) (answer : Answer) (given : ReplyValue × Bool) (result : Result Went End)
+      → IsTurn door bytes taken (turns.Packet packet (Asks ask slot)) → whole ≡ with_ask ask packet → ((earlier : List Packet) (it : Packet) → IsWholeWith ask slot earlier it) → step was (record { ask = ask; segment = segment; place = place; answer = answer }) now → given ≡ (reply_in slot (answer_body answer), not slot.single)
+      → Answers result (takes seen (replied whole given.0) sees) (refuses_notice seen (replied whole given.0) sees) (sent door (packet_of given.0)) given.1 old new
       → closed_of stream ≡ given.1 → pending_of stream ≡ None → Stands door stream bytes (suc taken) → Turns result was seen now sees old new stream
-  turned_answer was now seen sees old new stream packet ask slot segment place answer given result turn had gave r closed free stands =
+  turned_answer was now seen sees old new stream packet whole ask slot segment place answer given result turn joined law had gave r closed free stands =
       let exchange : Exchange = record { ask = ask; segment = segment; place = place; answer = answer } in
       let f = next_is door bytes taken packet (Asks ask slot) turn in
       let reply = reply_in slot (answer_body answer) in
-      replied_to f.frame f.more f.left (exchange ∷ []) (carrying slot answer) (replied (clear door f.frame) reply) was now seen sees old new stream (now, had, refl) result (not slot.single)
+      let earlier = packets_of door (take taken (cut door bytes).packets) in
+      let same : whole ≡ received earlier (clear door f.frame) = joined ∙ ap (with_ask ask) f.same ∙ law earlier (clear door f.frame) f.serves in
+      replied_to f.frame f.more f.left (exchange ∷ []) (carrying slot answer) (replied (received (packets_of door (take taken (cut door bytes).packets)) (clear door f.frame)) reply) was now seen sees old new stream (now, had, refl) result (not slot.single)
       (said_answer door _ f.frame exchange slot f.serves)
-      (subst (λ (p : Packet). Answers result (takes seen (replied p reply) sees) (refuses_notice seen (replied p reply) sees) (sent door (packet_of reply)) (not slot.single) old new) f.same
-      (subst (λ (p : ReplyValue × Bool). Answers result (takes seen (replied packet p.0) sees) (refuses_notice seen (replied packet p.0) sees) (sent door (packet_of p.0)) p.1 old new) gave r))
+      (subst (λ (p : Received). Answers result (takes seen (replied p reply) sees) (refuses_notice seen (replied p reply) sees) (sent door (packet_of reply)) (not slot.single) old new) same
+      (subst (λ (p : ReplyValue × Bool). Answers result (takes seen (replied whole p.0) sees) (refuses_notice seen (replied whole p.0) sees) (sent door (packet_of p.0)) p.1 old new) gave r))
       (closed ∙ ap (λ (p : ReplyValue × Bool). p.1) gave) free stands
 
   -- it wasn't asked
-  turned_uncalled : (was now : S) (seen : V) (old : Option (List ℕ)) (stream : Stream) (packet : Packet) (ask : Ask) (slot : Slot) (end : End) → IsNext door bytes taken packet (Asks ask slot) → rests was now
+  turned_uncalled : (was now : S) (seen : V) (old : Option (List ℕ)) (stream : Stream) (packet : Received) (ask : Ask) (slot : Slot) (end : End) → IsNext door bytes taken packet (Asks ask slot) → rests was now
       → IsUncalled (refuses now) ask end → Turns (Err end) was seen now seen old old stream
   turned_uncalled was now seen old stream packet ask slot end f rested u =
       let came = f.serves in
@@ -545,14 +551,14 @@ module _ {S V : Type 0} (step : S → Exchange → S → Type 0) (rests : S → 
         told = d.told;
       }
 
-  pub turned_refusal : (was now : S) (seen : V) (old : Option (List ℕ)) (stream : Stream) (packet : Packet) (ask : Ask) (slot : Slot) (result : Result Went End) (end : End) → IsTurn door bytes taken (turns.Packet packet (Asks ask slot))
+  pub turned_refusal : (was now : S) (seen : V) (old : Option (List ℕ)) (stream : Stream) (packet : Received) (ask : Ask) (slot : Slot) (result : Result Went End) (end : End) → IsTurn door bytes taken (turns.Packet packet (Asks ask slot))
       → rests was now → IsUncalled (refuses now) ask end → IsErrAnd result (λ told. told ≡ end) → Turns result was seen now seen old old stream
   turned_refusal was now seen old stream packet ask slot (Ok went) end turn rested u told = absurd told
   turned_refusal was now seen old stream packet ask slot (Err other) end turn rested u told =
       rw told (turned_uncalled was now seen old stream packet ask slot end (next_is door bytes taken packet (Asks ask slot) turn) rested u)
 
   -- nothing is sent
-  goes_silent : (was : S) (seen sees : V) (old : Option (List ℕ)) (stream : Stream) (packet : Packet) → IsNext door bytes taken packet Silent → takes seen (unreplied packet) sees
+  goes_silent : (was : S) (seen sees : V) (old : Option (List ℕ)) (stream : Stream) (packet : Received) → IsNext door bytes taken packet Silent → takes seen (unreplied packet) sees
       → closed_of stream ≡ false → pending_of stream ≡ None → Stands door stream bytes (suc taken) → Turns (Ok On) was seen was sees old old stream
   goes_silent was seen sees old stream packet f took closed free stands = record {
     frame = f.frame;
@@ -561,7 +567,7 @@ module _ {S V : Type 0} (step : S → Exchange → S → Type 0) (rests : S → 
     goes = record {
       made = [];
       sendings = [];
-      notices = unreplied (clear door f.frame) ∷ [];
+      notices = unreplied (received (packets_of door (take taken (cut door bytes).packets)) (clear door f.frame)) ∷ [];
       handled = handled_silent door _ f.frame f.serves;
       makes = refl;
       told = (sees, rw f.same at took, refl);
@@ -573,11 +579,11 @@ module _ {S V : Type 0} (step : S → Exchange → S → Type 0) (rests : S → 
   }
 
   -- a packet closes the connection without a reply
-  closes_packet : (was : S) (seen sees : V) (old : Option (List ℕ)) (stream : Stream) (packet : Packet) → IsNext door bytes taken packet Close → takes seen (unreplied packet) sees
+  closes_packet : (was : S) (seen sees : V) (old : Option (List ℕ)) (stream : Stream) (packet : Received) → IsNext door bytes taken packet Close → takes seen (unreplied packet) sees
       → Turns (Err ByProtocol) was seen was sees old old stream
   closes_packet was seen sees old stream packet f took =
       let d = ends_now (f.frame ∷ f.more) ByProtocol was was seen sees old old f.left
-      (done_none step rests refuses takes refuses_notice door _ (f.frame ∷ f.more) (cut door bytes).tail ByProtocol was was seen sees (unreplied (clear door f.frame) ∷ []) old old (rests_so was)
+      (done_none step rests refuses takes refuses_notice door _ (f.frame ∷ f.more) (cut door bytes).tail ByProtocol was was seen sees (unreplied (received (packets_of door (take taken (cut door bytes).packets)) (clear door f.frame)) ∷ []) old old (rests_so was)
       (asks_first door _ f.frame f.more ∙ rw f.serves refl) (served_first door _ f.frame f.more [] ∙ rw f.serves refl) (notices_first door _ f.frame f.more (cut door bytes).tail [] ∙ rw f.serves refl)
       (sees, rw f.same at took, refl) refl (Appends-nil old) refl (λ w. w) refl refl) in
       record {
@@ -597,17 +603,17 @@ module _ {S V : Type 0} (step : S → Exchange → S → Type 0) (rests : S → 
       (was, refl, rests_so was) refl (omega arith) refl refl tells refused (Appends-nil old)) in
       record { unfinished = λ e. cc; memory = λ e. absurd cc; closing = tt; ends = d.ends; told = d.told }
 
-  refuses_silent : (was : S) (seen sees : V) (old : Option (List ℕ)) (stream : Stream) (packet : Packet) → IsNext door bytes taken packet Silent → refuses_notice seen (unreplied packet) sees → Turns (Err Unwitnessed) was seen was sees old old stream
+  refuses_silent : (was : S) (seen sees : V) (old : Option (List ℕ)) (stream : Stream) (packet : Received) → IsNext door bytes taken packet Silent → refuses_notice seen (unreplied packet) sees → Turns (Err Unwitnessed) was seen was sees old old stream
   refuses_silent was seen sees old stream packet f refused =
       unwitnessed was seen sees old stream (f.frame ∷ f.more) (unreplied packet) (notices_to door (clear door f.frame ∷ packets_of door (take taken (cut door bytes).packets)) f.more (cut door bytes).tail []) f.left
       (notices_first door _ f.frame f.more (cut door bytes).tail [] ∙ rw (f.serves, f.same) refl) refused
 
-  refuses_close : (was : S) (seen sees : V) (old : Option (List ℕ)) (stream : Stream) (packet : Packet) → IsNext door bytes taken packet Close → refuses_notice seen (unreplied packet) sees → Turns (Err Unwitnessed) was seen was sees old old stream
+  refuses_close : (was : S) (seen sees : V) (old : Option (List ℕ)) (stream : Stream) (packet : Received) → IsNext door bytes taken packet Close → refuses_notice seen (unreplied packet) sees → Turns (Err Unwitnessed) was seen was sees old old stream
   refuses_close was seen sees old stream packet f refused =
       unwitnessed was seen sees old stream (f.frame ∷ f.more) (unreplied packet) [] f.left (notices_first door _ f.frame f.more (cut door bytes).tail [] ∙ rw (f.serves, f.same) refl) refused
 
   -- a packet has no reply
-  pub turned_silent : (was : S) (seen sees : V) (old : Option (List ℕ)) (stream : Stream) (packet : Packet) (result : Result Went End) → IsTurn door bytes taken (turns.Packet packet Silent)
+  pub turned_silent : (was : S) (seen sees : V) (old : Option (List ℕ)) (stream : Stream) (packet : Received) (result : Result Went End) → IsTurn door bytes taken (turns.Packet packet Silent)
       → Notes result (takes seen (unreplied packet) sees) (refuses_notice seen (unreplied packet) sees) false
       → closed_of stream ≡ false → pending_of stream ≡ None → Stands door stream bytes (suc taken) → Turns result was seen was sees old old stream
   turned_silent was seen sees old stream packet result turn n closed free stands =
@@ -615,7 +621,7 @@ module _ {S V : Type 0} (step : S → Exchange → S → Type 0) (rests : S → 
       noted (λ r. Turns r was seen was sees old old stream) result _ _ false n (λ e took. goes_silent was seen sees old stream packet f took closed free stands) (λ e took. absurd cc)
       (λ refused. refuses_silent was seen sees old stream packet f refused)
 
-  pub turned_close : (was : S) (seen sees : V) (old : Option (List ℕ)) (stream : Stream) (packet : Packet) (result : Result Went End) → IsTurn door bytes taken (turns.Packet packet Close)
+  pub turned_close : (was : S) (seen sees : V) (old : Option (List ℕ)) (stream : Stream) (packet : Received) (result : Result Went End) → IsTurn door bytes taken (turns.Packet packet Close)
       → Notes result (takes seen (unreplied packet) sees) (refuses_notice seen (unreplied packet) sees) true → Turns result was seen was sees old old stream
   turned_close was seen sees old stream packet result turn n =
       let f = next_is door bytes taken packet Close turn in
@@ -631,7 +637,7 @@ module _ {S V : Type 0} (step : S → Exchange → S → Type 0) (rests : S → 
   bad_tail : (header : Header) → IsTurn door bytes taken (turns.Refused header) → IsBadTail header
   bad_tail header (inl f) = absurd (by_packet f.is)
     where
-      by_packet : {packet : Packet} {it : Step} → turns.Refused header ≡ turns.Packet packet it → ⊥
+      by_packet : {packet : Received} {it : Step} → turns.Refused header ≡ turns.Packet packet it → ⊥
       by_packet e = cc
   bad_tail header (inr n) = record { left = n.left; shut = shut_by (cut door bytes).tail n.is; notice = notice_by (cut door bytes).tail n.is }
     where
@@ -672,7 +678,7 @@ module _ {S V : Type 0} (step : S → Exchange → S → Type 0) (rests : S → 
       rw told (record { unfinished = λ e. cc; memory = λ e. some_bytes door bytes taken some; closing = tt; ends = d.ends; told = d.told })
 
   -- memory ran out for what a packet is answered
-  pub turned_roomless : (was : S) (seen : V) (old : Option (List ℕ)) (stream : Stream) (packet : Packet) (it : Step) (result : Result Went End) → IsTurn door bytes taken (turns.Packet packet it)
+  pub turned_roomless : (was : S) (seen : V) (old : Option (List ℕ)) (stream : Stream) (packet : Received) (it : Step) (result : Result Went End) → IsTurn door bytes taken (turns.Packet packet it)
       → IsErrAnd result (λ told. told ≡ Memory) → Turns result was seen was seen old old stream
   turned_roomless was seen old stream packet it result turn told =
       let f = next_is door bytes taken packet it turn in
@@ -683,7 +689,7 @@ module _ {S V : Type 0} (step : S → Exchange → S → Type 0) (rests : S → 
       → Turns (Ok Rests) was seen was seen old old stream
   turned_need was seen old stream (inl f) closed free stands = absurd (by_packet f.is)
     where
-      by_packet : {packet : Packet} {it : Step} → turns.Need ≡ turns.Packet packet it → ⊥
+      by_packet : {packet : Received} {it : Step} → turns.Need ≡ turns.Packet packet it → ⊥
       by_packet e = cc
   turned_need was seen old stream (inr n) closed free stands = record {
     left = n.left;
@@ -702,7 +708,7 @@ module _ {S V : Type 0} (step : S → Exchange → S → Type 0) (rests : S → 
 pub not_shut : (door : Door) (bytes : List ℕ) (taken : ℕ) → IsTurn door bytes taken turns.Close → ⊥
 not_shut door bytes taken (inl f) = by_packet f.is
   where
-    by_packet : {packet : Packet} {it : Step} → turns.Close ≡ turns.Packet packet it → ⊥
+    by_packet : {packet : Received} {it : Step} → turns.Close ≡ turns.Packet packet it → ⊥
     by_packet e = cc
 not_shut door bytes taken (inr n) = by_tail (cut door bytes).tail n.is
   where

@@ -11,7 +11,7 @@ ghost use Rattle.tac_worker.specs.Worked.{Exchange};
 ghost use Rattle.tac_worker.specs.Working.{IsUnmade};
 
 use tac_conn::{Answer, Ask, Hash};
-use tac_hall::{HallFault, Receipt};
+use tac_hall::{Call, HallFault, Receipt};
 
 /// Who makes the calls of a connection, one after another: a seat of a hall.
 pub trait Caller: Drop {
@@ -27,11 +27,12 @@ pub trait Caller: Drop {
     /// The number of its seat.
     fn number(&self) -> u32;
 
-    /// Calls an ask. Where that is refused, it did nothing.
-    fn ask(&mut self, ask: Ask) -> Result<Answer, HallFault>
-        ensures makes { IfOk result (λ answer. (segment : ℕ) × (place : ℕ) × makes self.old
-            (record { ask = ask; segment = segment; place = place; answer = answer }) self.new) }
-        ensures kind { IfOk result (λ answer. kind_of_answer answer ≡ kind_of_ask ask) }
+    /// Calls an ask, and gives it back with the answer. Where it is refused, it did nothing.
+    fn ask(&mut self, ask: Ask) -> Result<(Answer, Ask), HallFault>
+        ensures makes { IfOk result (λ given. (segment : ℕ) × (place : ℕ) × makes self.old
+            (record { ask = ask; segment = segment; place = place; answer = given.0 }) self.new) }
+        ensures kind { IfOk result (λ given. kind_of_answer given.0 ≡ kind_of_ask ask) }
+        ensures same { IfOk result (λ given. given.1 ≡ ask) }
         ensures unmade { IfErr result (IsUnmade (refuses self.new) ask) }
         ensures err { OnErr result (rests self.old self.new) };
 
@@ -43,6 +44,17 @@ pub trait Caller: Drop {
 
     /// Who does nothing rests.
     ghost rests_so: { (caller : Self) → rests caller caller };
+}
+
+/// The ask that was called.
+pub(crate) fn ask_in(call: Call) -> Ask
+    requires { (ask : Ask) × (call ≡ calls.Ask ask) }
+    ensures { call ≡ calls.Ask result }
+{
+    let Some(ask) = call.into_ask() else {
+        unreachable!()
+    };
+    ask
 }
 
 /// The answer in the receipt of an ask.

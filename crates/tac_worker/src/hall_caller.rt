@@ -4,7 +4,7 @@ ghost use Rattle.std.specs.Prelude.{◌≡◌};
 ghost use Rattle.tac_hall.specs.Seat.{CatchesUp};
 ghost use Rattle.tac_worker.specs.AtHall as at_hall;
 
-use crate::caller::{Caller, answer_in};
+use crate::caller::{Caller, answer_in, ask_in};
 use std::marker::Model;
 use std::sync::Wait;
 use tac_conn::{Answer, Ask, Hash};
@@ -70,9 +70,10 @@ impl<'a, H: Wait, J: Run, D: Desk> Caller for HallCaller<'a, H, J, D> {
         self.seat.number()
     }
 
-    fn ask(&mut self, ask: Ask) -> Result<Answer, HallFault> {
-        let receipt = self.hall.call(self.rt, &mut self.seat, &Call::Ask(ask))?;
-        Ok(answer_in(receipt))
+    fn ask(&mut self, ask: Ask) -> Result<(Answer, Ask), HallFault> {
+        let call = Call::Ask(ask);
+        let receipt = self.hall.call(self.rt, &mut self.seat, &call)?;
+        Ok((answer_in(receipt), ask_in(call)))
     }
 
     fn hash(&self, ask: &Ask) -> Option<Hash> {

@@ -22,7 +22,7 @@ use crate::terms::Terms;
 use std::alloc::{AllocError, Global};
 use std::snapshot::Snapshot;
 use tac_audit::{Notice, Witness};
-use tac_conn::{Answer, Ask, Packet, Reply, Step};
+use tac_conn::{Answer, Ask, Received, Reply, Step};
 use tac_stream::{Stream, Turn};
 use tac_wire::Door;
 
@@ -54,16 +54,17 @@ fn put_reply(
     Ok(Went::On)
 }
 
-// Calls an ask, and notes it. The room for the reply is taken first.
+// Calls an ask, notes it, and gives it back. The room for the reply is taken first.
 fn ask_by<C: Caller>(
     alloc: Global,
     caller: &mut C,
     ask: Ask,
     called: &mut Called,
-) -> Result<(Answer, Room), End>
+) -> Result<(Answer, Ask, Room), End>
     ensures makes { IfOk result (λ given. (segment : ℕ) × (place : ℕ) × C.makes caller.old
         (record { ask = ask; segment = segment; place = place; answer = given.0 }) caller.new) }
     ensures kind { IfOk result (λ given. kind_of_answer given.0 ≡ kind_of_ask ask) }
+    ensures same { IfOk result (λ given. given.1.0 ≡ ask) }
     ensures uncalled { IfErr result (working.IsUncalled (C.refuses caller.new) ask) }
     ensures err { OnErr result (C.rests caller.old caller.new) }
     ensures called { MatchResult result (λ given. called.new ≡ called.old ++ (ask, given.0) ∷ [])
@@ -71,9 +72,9 @@ fn ask_by<C: Caller>(
 {
     let room = Room::new(alloc)?;
     let asked = Snapshot::of(&ask);
-    let answer = caller.ask(ask)?;
+    let (answer, ask) = caller.ask(ask)?;
     called.add(&asked, &answer);
-    Ok((answer, room))
+    Ok((answer, ask, room))
 }
 
 // Tells the witness of a packet and its reply, and puts that there once it took the notice.
@@ -82,17 +83,17 @@ fn answer<V: Witness<Notice>>(
     witness: &mut V,
     queue: &mut Queue,
     room: Room,
-    packet: Packet,
+    received: Received,
     given: (Reply, bool),
 ) -> Result<Went, End>
     requires { queue.old ≡ [] }
-    ensures { let notice = replied packet given.0 in
+    ensures { let notice = replied received given.0 in
         working.Answers result (V.takes witness.old notice witness.new)
         (V.refuses witness.old notice witness.new) (sent door.now (packet_of given.0))
         given.1 (Some queue.old) (Some queue.new) }
 {
     let (reply, closes) = given;
-    let notice = Notice::Packet(packet, Some(reply));
+    let notice = Notice::Packet(received, Some(reply));
     witness.tell(&notice)?;
     let Notice::Packet(_, Some(reply)) = &notice else {
         unreachable!()
@@ -140,18 +141,19 @@ pub(crate) fn serve_turn<C: Caller, V: Witness<Notice>>(
         Err(error) => return Err(End::from(error)),
     };
     match turn {
-        Turn::Packet(packet, step) => match step {
+        Turn::Packet(received, step) => match step {
             Step::Reply(reply, closes) => {
                 let room = Room::new(terms.alloc)?;
-                answer(terms.door, witness, queue, room, packet, (reply, closes))
+                answer(terms.door, witness, queue, room, received, (reply, closes))
             }
             Step::Asks(ask, slot) => {
-                let (told, room) = ask_by(terms.alloc, caller, ask, called)?;
+                let (told, asked, room) = ask_by(terms.alloc, caller, ask, called)?;
                 let given = stream.give(slot, told);
-                answer(terms.door, witness, queue, room, packet, given)
+                let whole = received.with_ask(asked);
+                answer(terms.door, witness, queue, room, whole, given)
             }
-            Step::Silent => note(witness, Notice::Packet(packet, None), false),
-            Step::Close => note(witness, Notice::Packet(packet, None), true),
+            Step::Silent => note(witness, Notice::Packet(received, None), false),
+            Step::Close => note(witness, Notice::Packet(received, None), true),
         },
         Turn::Need => Ok(Went::Rests),
         Turn::Refused(header) => note(witness, Notice::BadHeader(header), true),

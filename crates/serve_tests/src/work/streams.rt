@@ -5,7 +5,7 @@ ghost use Rattle.std.specs.Prelude.{◌≡◌, ◌≤◌, length};
 use std::alloc::Global;
 use std::io::{self, ErrorKind, Read, Write};
 use tac_audit::{Notice, Refused, Witness};
-use tac_conn::Packet;
+use tac_conn::{Reading, Received};
 
 /// Gives the question for a `p`, the record for an `r`, twelve bytes that are no header for an `h`,
 /// is interrupted for an `i`, and fails for an `x`. At a `-` and after the last letter nothing is left.
@@ -137,21 +137,26 @@ impl Write for Sink {
 }
 
 /// Takes so many notices, and refuses the next. What it is told is a letter each: `p` of a packet
-/// with a reply, `n` of one without, `c` of one whose body is cut, `h` of a header that is refused.
+/// with a reply, `n` of one without, `c` of one that lacks the user whom its ask had, `h` of a
+/// header that is refused.
 #[derive(Drop)]
 pub(crate) struct Scribe {
     pub(crate) told: String,
     pub(crate) takes: usize,
 }
 
-// Whether the body of a packet is as long as its header says.
-fn is_whole(packet: &Packet) -> bool {
-    u32::try_from(packet.body.len()) == Ok(packet.header.length)
+// Whether it has the user whom its ask had meanwhile.
+fn is_whole(received: &Received) -> bool {
+    match &received.reading {
+        Reading::Login(asker) | Reading::Command { asker, .. } | Reading::Account { asker, .. } =>
+            !asker.user.is_empty(),
+        _ => true,
+    }
 }
 
 fn letter_of(notice: &Notice) -> &'static str {
     match notice {
-        Notice::Packet(packet, _) if !is_whole(packet) => "c",
+        Notice::Packet(received, _) if !is_whole(received) => "c",
         Notice::Packet(_, Some(_)) => "p",
         Notice::Packet(_, None) => "n",
         Notice::BadHeader(_) => "h",

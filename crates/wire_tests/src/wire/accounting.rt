@@ -6,7 +6,7 @@ use basics::{Bytes, Sequence};
 use std::alloc::{AllocError, Global};
 use std::test::Fail;
 use tac_request::{
-    AcctKind, AcctRequest, Record, acct_kind, read_acct_reply, read_acct_request, write_acct_reply,
+    AcctKind, Record, acct_kind, read_acct_reply, read_acct_request, write_acct_reply,
 };
 
 // Flags, method, level, authen_type, service, the three fields, and the arguments.
@@ -57,18 +57,7 @@ pub(crate) fn kind(alloc: Global, given: &str) -> Result<String, Fail> {
 
 // What is recorded at the end of a task, by this user with these arguments.
 fn record_of(alloc: Global, user: Bytes, args: Sequence<Bytes>) -> Result<Record, AllocError> {
-    let request = AcctRequest {
-        flags: 4,
-        authen_method: 6,
-        priv_lvl: 1,
-        authen_type: 1,
-        authen_service: 1,
-        user,
-        port: Bytes::new(alloc),
-        rem_addr: Bytes::new(alloc),
-        args,
-    };
-    Record::from_request(alloc, request, AcctKind::Stop)
+    Record::from_request(alloc, user, args.as_slice(), AcctKind::Stop)
 }
 
 // What is recorded: seconds, task, and the line, where there is one.

@@ -42,7 +42,7 @@ pub(crate) fn came(alloc: Global, given: &str) -> Result<String, Fail> {
 // Whether the connection closes, and what is sent.
 fn replied(alloc: Global, door: &Door, frame: Frame) -> Result<String, Fail> {
     let mut conn = Conn::new(alloc);
-    let (_packet, step) = conn.take(door, frame)?;
+    let (_received, step) = conn.take(door, frame)?;
     let Step::Reply(reply, closes) = step else {
         return Err(Fail::from("no reply"));
     };

@@ -21,7 +21,7 @@ returns-in-Ended-clause-turn c = λ bytes taken s.
 pub returns-in-Ok-clause-turn : goal.returns-in-Ok-clause-turn
 returns-in-Ok-clause-turn c = λ bytes taken s.
     packet_next c.args.door.now c.in_ok-frame.ensures.items c.args.self.now bytes taken s c.in-Packet.frame (sym c.in-Packet.is ∙ c.in_ok-frame.ensures.told)
-    c.in-Ok.packet c.in-Ok.step c.in-Ok.ensures.packet (c.in-Ok.ensures.step _ s.conn)
+    c.in-Ok.received c.in-Ok.step (c.in-Ok.ensures.received _ s.conn) (c.in-Ok.ensures.step _ s.conn)
 
 pub returns-in-Ok-clause-stands : goal.returns-in-Ok-clause-stands
 returns-in-Ok-clause-stands c = λ bytes taken s.
