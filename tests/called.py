@@ -345,6 +345,26 @@ def a_device_is_taken_out_in_its_first_packet(program):
         ends(program, server)
 
 
+def a_device_has_other_keys_in_its_first_packet(program):
+    """It goes by the latest file, also where it has another number in that."""
+    with serving(program, BOTH_KEYS + OTHERS) as server:
+        for source, key, wanted in (("127.0.0.1", THIRD, True), ("127.0.0.1", OLD, False)):
+            put_devices(server, BOTH_KEYS + OTHERS)
+            typed(program, server, "reload devices")
+            with connect(server, source) as device:
+                sent = packet(ASK, key, flag=KEPT)
+                device.sendall(sent[:20])
+                time.sleep(0.1)
+                both = f"device one\nat {source}\nkey {THIRD.decode()}\nold-key {NEW.decode()}\n"
+                put_devices(server, f"device nine\nat {STRANGER}\nkey {OLD.decode()}\n{both}")
+                told = typed(program, server, "reload devices")
+                require(told == "devices ok: 2 devices, 2 prefixes\n", f"it tells {told}")
+                reply = packet(PERMITTED, key, flag=KEPT)
+                is_served = answer(device, sent[20:], len(reply)) == reply
+                require(is_served == wanted, f"under {key} it is answered: {is_served}")
+        ends(program, server, MISFIT)
+
+
 def a_devices_file_that_is_refused(program):
     """Or that can't be read: then those before are served on. Standard error says what is wrong, and
     where."""

@@ -1,6 +1,7 @@
 pub mod Crossing
 pub mod PrefixFacts
 pub mod NearFacts
+pub mod LengthFacts
 pub mod ReadingFacts
 pub mod OnlyFacts
 pub mod TableFacts

@@ -1,12 +1,13 @@
 -- Which device an address belongs to: the longest prefix decides (RFC 8907, section 10.5.1, for
 -- clients and keys that a server knows; docs/DEVICES.md).
-use Rattle.std.specs.Prelude.{◌≡◌, ◌≤◌, List, [], ◌∷◌, ◌++◌, map, Contains, All, Bool, true, false}
-use Rattle.std.specs.Prelude.{◌&&◌, nat_lt, Option, Some, None, if◌then◌else◌}
+use Rattle.std.specs.Prelude.{◌≡◌, ◌≤◌, ℕ, ◌==◌, max, List, [], ◌∷◌, ◌++◌, map, Contains, All, Bool}
+use Rattle.std.specs.Prelude.{true, false, ◌&&◌, nat_lt, nat_le, Option, Some, None, if◌then◌else◌}
 use Rattle.std.specs.Option.{option_map}
 use Rattle.std.specs.declared.net.ip_addr.IpAddr.{IpAddr}
-use Rattle.tac_devices.specs.Prefix.{Range, covers, same_prefix, IsBare, IsCanonical}
+use Rattle.tac_devices.specs.Prefix.{Range, width, covers, same_prefix, IsBare, IsCanonical}
 use Rattle.tac_devices.specs.declared.device.Device.{Device}
 use Rattle.tac_devices.specs.declared.device.Place.{Place}
+use Rattle.tac_devices.specs.declared.devices.Lengths.{Lengths}
 use Rattle.tac_devices.specs.declared.devices.Spot.{Spot as Found}
 
 -- a device's prefix
@@ -64,6 +65,32 @@ abbrev pub IsDeviceAt : List Device → IpAddr → Option Device → Type 0
 IsDeviceAt devices address device =
     (found : Option Spot) × IsFound devices address found
     × (device ≡ option_map (λ spot. spot.0) found)
+
+-- ---- how long the longest prefixes are
+
+-- those of addresses of so many bits
+abbrev pub length_of : Lengths → ℕ → ℕ
+length_of lengths bits = if bits == 32 then lengths.v4 else lengths.v6
+
+-- with one more prefix
+abbrev pub with_length : Lengths → Range → Lengths
+with_length lengths prefix =
+    if width prefix.address == 32 then record lengths { v4 = max lengths.v4 prefix.length }
+    else record lengths { v6 = max lengths.v6 prefix.length }
+
+abbrev pub lengths_from : Lengths → List Spot → Lengths
+lengths_from lengths [] = lengths
+lengths_from lengths (spot ∷ spots) =
+    lengths_from (with_length lengths spot.1.prefix) spots
+
+abbrev pub lengths_of : List Device → Lengths
+lengths_of devices = lengths_from (record { v4 = 0; v6 = 0 }) (spots devices)
+
+-- an address begins with this prefix, and it is as long as the longest
+abbrev pub is_longest : Lengths → IpAddr → Place → Bool
+is_longest lengths address place =
+    covers place.prefix address
+    && nat_le (length_of lengths (width place.prefix.address)) place.prefix.length
 
 -- ---- what is so of all devices that were read
 

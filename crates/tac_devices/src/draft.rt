@@ -455,6 +455,6 @@ impl Draft {
         let done = draft.into_done();
         check(done.as_slice())?;
         let devices = devices_of(alloc, done.into_vec())?;
-        Ok(Devices { devices })
+        Ok(Devices::of(devices))
     }
 }

@@ -1,6 +1,6 @@
 //! Addresses that begin with the same bits.
 
-ghost use Rattle.std.specs.Prelude.{◌≡◌, ◌≤◌, ◌↔◌, ◌-◌, ◌/◌, ◌^◌, ℕ, IsTrue, IfSome, IfNone};
+ghost use Rattle.std.specs.Prelude.{◌≡◌, ◌==◌, ◌≤◌, ◌↔◌, ◌-◌, ◌/◌, ◌^◌, ℕ, IsTrue, IfSome, IfNone};
 ghost use Rattle.std.specs.declared.net.ip_addr.IpAddr.{IpAddr as IpValue};
 ghost use Rattle.tac_devices.specs.Prefix as prefixes;
 
@@ -199,6 +199,13 @@ impl Prefix {
         ensures fits { result ≤ prefixes.width self.now.address }
     {
         self.length
+    }
+
+    /// Whether it is of IPv4 addresses.
+    pub(crate) fn is_v4(&self) -> bool
+        ensures { result ≡ (prefixes.width self.now.address == 32) }
+    {
+        width(&self.address) == 32
     }
 
     /// Whether an address begins so.

@@ -19,7 +19,8 @@ use Rattle.tac_worker.specs.Calls.{Call}
 use Rattle.tac_worker.specs.Board.{Board, AreAll, AreApart, IsKnown, IsAccounted, IsWorking}
 use Rattle.tac_net.specs.Logs.{HasLogged}
 use Rattle.tac_net.specs.declared.callers.Callers.{Callers}
-use Rattle.tac_net.specs.Connections.{IsTold, IsRefused, TellsLog, Begins, DeskLine, DeskBoard, IsDeskBoard, IsConnectionOf, HasServed}
+use Rattle.tac_worker.specs.SeatBoard.{IsTold, IsRefused, DeskLine, DeskBoard, IsDeskBoard}
+use Rattle.tac_net.specs.Connections.{TellsLog, Begins, IsConnectionOf, HasServed}
 use Rattle.tac_net.proofs.LogFacts.{served_as}
 
 -- ---- one for each

@@ -1,29 +1,20 @@
 -- What a worker of a hall has done that served many connections in turns, and what several
 -- have.
-use Rattle.std.specs.Prelude.{◌≡◌, ◌≤◌, ℕ, List, [], ◌∷◌, ◌++◌, Bool, true, Option}
+use Rattle.std.specs.Prelude.{◌≡◌, ◌≤◌, ℕ, List, [], ◌∷◌, true, Option}
 use Rattle.tac_audit.specs.declared.event.Named.{Named}
 use Rattle.tac_audit.specs.declared.notice.Notice.{Notice}
 use Rattle.tac_audit.specs.Witness.{AreTold}
 use Rattle.tac_hall.specs.Room.{Opening}
-use Rattle.tac_hall.specs.Seat.{Seated, CatchesUp}
+use Rattle.tac_hall.specs.Seat.{Seated}
 use Rattle.tac_journal.specs.Log.{Keeping}
-use Rattle.tac_worker.specs.AtHall as at_desk
 use Rattle.tac_wire.specs.declared.door.Door.{Door}
-use Rattle.tac_worker.specs.Board.{Board, AreAll, IsWorking}
-use Rattle.tac_worker.specs.declared.line.Line.{Line}
+use Rattle.tac_worker.specs.Board.{AreAll}
+use Rattle.tac_worker.specs.SeatBoard.{DeskLine, DeskBoard, IsDeskBoard}
 use Rattle.tac_net.specs.Callers.{IsDoorOfOne}
 use Rattle.tac_net.specs.Logs.{HasLogged}
 use Rattle.tac_net.specs.declared.callers.Callers.{Callers}
 
 -- ---- who is told
-
--- a witness that knows all that it was told took this notice
-abbrev pub IsTold : List Notice → Notice → List Notice → Type 0
-IsTold was notice now = now ≡ was ++ notice ∷ []
-
--- .. refused it, which only a log that is kept does
-abbrev pub IsRefused : Bool → List Notice → Notice → List Notice → Type 0
-IsRefused is_kept was notice now = (is_kept ≡ true) × (now ≡ was)
 
 -- whatever this witness takes, the log has the lines of it, which name its device so; and it
 -- refuses a notice only where a log is kept
@@ -42,20 +33,6 @@ Begins takes refuses callers log door first =
     (who : Option Named) × IsDoorOfOne callers door who × TellsLog takes refuses log who first
 
 -- ---- a seat
-
--- a connection of a seat, whose witness is what it was told. Of its socket nothing is said
-abbrev pub DeskLine : Type 0
-DeskLine = Line Seated (List Notice) (Unit {0})
-
--- a seat and its connections
-abbrev pub DeskBoard : Type 0
-DeskBoard = Board Seated (List Notice) (Unit {0})
-
--- the seat made these calls, each for one of them, and each was served by its own calls
-abbrev pub IsDeskBoard : Opening → Bool → DeskBoard → Type 0
-IsDeskBoard opening is_kept board =
-    IsWorking (at_desk.MakesOne opening) CatchesUp (at_desk.Refuses opening)
-    IsTold (IsRefused is_kept) board
 
 -- a device may call by its door, and the log, if one is kept, took the lines of all that its
 -- witness was told, which name this device

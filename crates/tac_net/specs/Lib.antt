@@ -4,9 +4,6 @@ pub mod Connections
 pub mod Opening
 pub mod Ending
 pub mod Program
-pub mod Shared
-pub mod Places
-pub mod Clear
 pub mod Patience
 pub mod Pause
 pub mod Witness

@@ -1,27 +1,10 @@
 //! Accepting connections.
 
-use crate::greeting::{Greeted, Greeting};
-use crate::intake::Arrival;
 use crate::pause::Pause;
-use crate::peer::{Peer, Way};
-use crate::poller::{Poller, greeting_key};
-use crate::premises::Premises;
 use mio::net::{TcpListener, TcpStream, UnixListener};
-use slab::Slab;
-use std::alloc::Global;
 use std::io::{self, ErrorKind};
-use std::net;
+use std::net::{self, SocketAddr};
 use std::os::fd::OwnedFd;
-use std::sync::Wait;
-use std::time::Clock;
-use tac_audit::WhyTurnedAway;
-use tac_desk::Desk;
-use tac_hall::Run;
-use tac_journal::{Log, LogFiles};
-use tac_status::Rejection;
-
-/// How many connections are accepted in a row for other workers.
-const MOST_AT_ONCE: usize = 64;
 
 /// Whether connections can be accepted.
 #[derive(Clone, Copy, PartialEq, Eq)]
@@ -42,23 +25,26 @@ pub(crate) struct Entrance<L> {
     pause: Pause,
 }
 
-/// The listeners of a server, as the worker has them that accepts for all, and the connections of a
-/// proxy of which the header is awaited.
+/// The listeners of a server, as the worker has them that accepts for all.
 pub(crate) struct Acceptor {
     port: Option<Entrance<TcpListener>>,
     proxy: Option<Entrance<UnixListener>>,
-    greetings: Slab<Greeting>,
 }
 
 // By hand, so that a proof of an owner has one call at each exit, not a drop of each field.
 impl Drop for Acceptor {
     fn drop(self) {
-        let Acceptor {
-            port: _,
-            proxy: _,
-            greetings: _,
-        } = self;
+        let Acceptor { port: _, proxy: _ } = self;
     }
+}
+
+/// A connection that was accepted, as a stream that never waits.
+#[derive(Drop)]
+pub(crate) enum Accepted {
+    /// At the port: a device calls from this address.
+    Device(TcpStream, SocketAddr),
+    /// At the proxy's socket, which is to tell who calls.
+    Proxy(TcpStream),
 }
 
 // How long it is from now to a moment, in milliseconds.
@@ -75,48 +61,6 @@ fn nearer(one: Option<u64>, other: Option<u64>) -> Option<u64> {
         (Some(one), Some(other)) => Some(one.min(other)),
         (Some(one), None) => Some(one),
         (None, other) => other,
-    }
-}
-
-// Finds a worker for a connection, unless its device may not call so or there are too many. It
-// comes back where that is the first one's own.
-fn receive<R, J: Run, D: Desk, L: Log>(
-    premises: &Premises<'_, R, J, D, L>,
-    arrival: Arrival,
-) -> Option<Arrival>
-where
-    R: Wait + Clock + AllocGlobal + Eprint + LogFiles,
-{
-    let Premises {
-        rt,
-        settings,
-        intake,
-        counts,
-        ..
-    } = *premises;
-    let peer = arrival.peer;
-    // a device that may not call is turned away first, so it takes nobody's place
-    let found = match settings.callers.find(&peer.address.ip(), &peer.way) {
-        Ok(found) => found,
-        Err(refused) => {
-            intake.turned_away().refuse(premises, peer.address, refused);
-            return None;
-        }
-    };
-    let most = found.connections().unwrap_or(settings.per_address);
-    match intake.place(rt, &counts.connections, arrival, most) {
-        Ok(own) => own,
-        Err(Rejection::PerAddress) => {
-            let named = found.named(&peer.way);
-            intake
-                .turned_away()
-                .crowd_out(premises, peer.address, named);
-            None
-        }
-        Err(why) => {
-            counts.connections.reject(why);
-            None
-        }
     }
 }
 
@@ -192,39 +136,35 @@ fn opens_in<L>(entrance: &Option<Entrance<L>>, now: Option<u64>) -> Option<u64> 
 
 impl Entrance<TcpListener> {
     // Accepts a connection of a device, if one waits.
-    fn accept_device(&mut self, alloc: Global, now: Option<u64>) -> Option<Arrival> {
+    fn accept_device(&mut self, now: Option<u64>) -> Option<Accepted> {
+        if self.opens_in(now) != Some(0) {
+            return None;
+        }
         let accepted = self.listener.accept();
         let (stream, address) = self.accepted(accepted, now)?;
-        let way = Way::Port;
-        Some(Arrival {
-            stream,
-            peer: Peer { address, way },
-            begun: Vec::new(alloc),
-        })
+        Some(Accepted::Device(stream, address))
     }
 }
 
 impl Entrance<UnixListener> {
     // Accepts a connection of a proxy, if one waits.
-    fn accept_greeting(&mut self, alloc: Global, now: Option<u64>) -> Option<Greeting> {
+    fn accept_proxy(&mut self, now: Option<u64>) -> Option<Accepted> {
+        if self.opens_in(now) != Some(0) {
+            return None;
+        }
         let accepted = stream_of(&self.listener);
         let stream = self.accepted(accepted, now)?;
-        Some(Greeting::new(alloc, stream, now))
+        Some(Accepted::Proxy(stream))
     }
 }
 
 impl Acceptor {
     /// One that has accepted nothing yet.
     pub(crate) fn new(
-        alloc: Global,
         port: Option<Entrance<TcpListener>>,
         proxy: Option<Entrance<UnixListener>>,
     ) -> Acceptor {
-        Acceptor {
-            port,
-            proxy,
-            greetings: Slab::new(alloc),
-        }
+        Acceptor { port, proxy }
     }
 
     /// The port says that connections wait.
@@ -246,204 +186,28 @@ impl Acceptor {
         nearer(opens_in(&self.port, now), opens_in(&self.proxy, now))
     }
 
-    // Accepts a connection of a device, which may be another worker's or be closed.
-    fn accept<R, J: Run, D: Desk, L: Log>(
-        &mut self,
-        premises: &Premises<'_, R, J, D, L>,
-        now: Option<u64>,
-    ) -> Option<Arrival>
-    where
-        R: Wait + Clock + AllocGlobal + Eprint + LogFiles,
-    {
-        let port = self.port.as_mut()?;
-        let arrival = port.accept_device(premises.rt.alloc(), now)?;
-        receive(premises, arrival)
-    }
-
-    // Accepts connections at the port and hands them to the workers, up to one that is the first
-    // worker's own. There is none where no more wait, and where others are to have their turns
-    // first.
-    fn next_at_port<R, J: Run, D: Desk, L: Log>(
-        &mut self,
-        premises: &Premises<'_, R, J, D, L>,
-        now: Option<u64>,
-    ) -> Option<Arrival>
-    where
-        R: Wait + Clock + AllocGlobal + Eprint + LogFiles,
-    {
-        for _ in 0..MOST_AT_ONCE {
-            if opens_in(&self.port, now) != Some(0) {
-                return None;
-            }
-            if let Some(arrival) = self.accept(premises, now) {
-                return Some(arrival);
-            }
-        }
-        None
-    }
-
-    // Waits for the rest of a header, whose socket is registered or not. Where that can't be done,
-    // the connection is closed.
-    fn wait<R, J: Run, D: Desk, L>(
-        &mut self,
-        premises: &Premises<'_, R, J, D, L>,
-        poller: &Poller,
-        greeting: Greeting,
-        is_registered: bool,
-    ) {
-        let key = greeting_key(self.greetings.vacant_key());
-        let registered = if is_registered {
-            poller.register_again(greeting.stream(), key, false)
-        } else {
-            poller.register(greeting.stream(), key, false)
-        };
-        if registered.is_err() || self.greetings.insert(greeting).is_err() {
-            premises.counts.connections.reject(Rejection::Memory);
-        }
-    }
-
-    // Goes on with a connection of a proxy, which may be another worker's, be closed, or wait for
-    // the rest of its header.
-    fn greet<R, J: Run, D: Desk, L: Log>(
-        &mut self,
-        premises: &Premises<'_, R, J, D, L>,
-        poller: &Poller,
-        greeting: Greeting,
-        is_registered: bool,
-    ) -> Option<Arrival>
-    where
-        R: Wait + Clock + AllocGlobal + Eprint + LogFiles,
-    {
-        match greeting.look(premises.rt.alloc()) {
-            Greeted::Waits(greeting) => {
-                self.wait(premises, poller, greeting, is_registered);
-                None
-            }
-            Greeted::Arrived(arrival) => {
-                if is_registered {
-                    let _ = poller.deregister(&arrival.stream);
-                }
-                receive(premises, arrival)
-            }
-            Greeted::Bad => {
-                premises.intake.turned_away().refuse_header(premises);
-                None
-            }
-            Greeted::Memory => {
-                premises.counts.connections.reject(Rejection::Memory);
-                None
-            }
-            Greeted::Gone => None,
-        }
-    }
-
-    // Accepts a connection of a proxy. One is closed where as many headers are awaited as there may
-    // be connections.
-    fn accept_by_proxy<R, J: Run, D: Desk, L: Log>(
-        &mut self,
-        premises: &Premises<'_, R, J, D, L>,
-        poller: &Poller,
-        now: Option<u64>,
-    ) -> Option<Arrival>
-    where
-        R: Wait + Clock + AllocGlobal + Eprint + LogFiles,
-    {
-        let proxy = self.proxy.as_mut()?;
-        let greeting = proxy.accept_greeting(premises.rt.alloc(), now)?;
-        if self.greetings.len() >= premises.settings.connections_at_once as usize {
-            premises.counts.connections.reject(Rejection::AtOnce);
-            return None;
-        }
-        self.greet(premises, poller, greeting, false)
+    // Accepts a connection at the port, if one waits.
+    fn next_at_port(&mut self, now: Option<u64>) -> Option<Accepted> {
+        self.port.as_mut()?.accept_device(now)
     }
 
     // The same at the proxy's socket.
-    fn next_by_proxy<R, J: Run, D: Desk, L: Log>(
-        &mut self,
-        premises: &Premises<'_, R, J, D, L>,
-        poller: &Poller,
-        now: Option<u64>,
-    ) -> Option<Arrival>
-    where
-        R: Wait + Clock + AllocGlobal + Eprint + LogFiles,
-    {
-        for _ in 0..MOST_AT_ONCE {
-            if opens_in(&self.proxy, now) != Some(0) {
-                return None;
-            }
-            if let Some(arrival) = self.accept_by_proxy(premises, poller, now) {
-                return Some(arrival);
-            }
-        }
-        None
+    fn next_by_proxy(&mut self, now: Option<u64>) -> Option<Accepted> {
+        self.proxy.as_mut()?.accept_proxy(now)
     }
 
-    /// Accepts connections and hands them to the workers, up to one that is the first worker's own.
-    /// At every other turn those of the proxy come first. There is none where no more wait, and
-    /// where others are to have their turns first.
-    pub(crate) fn next<R, J: Run, D: Desk, L: Log>(
-        &mut self,
-        premises: &Premises<'_, R, J, D, L>,
-        poller: &Poller,
-        now: Option<u64>,
-        turn: usize,
-    ) -> Option<Arrival>
-    where
-        R: Wait + Clock + AllocGlobal + Eprint + LogFiles,
-    {
+    /// Accepts a connection, if one waits. At every other turn one of the proxy comes first.
+    pub(crate) fn next(&mut self, now: Option<u64>, turn: usize) -> Option<Accepted> {
         if turn % 2 == 0 {
-            match self.next_at_port(premises, now) {
-                Some(arrival) => Some(arrival),
-                None => self.next_by_proxy(premises, poller, now),
+            match self.next_at_port(now) {
+                Some(accepted) => Some(accepted),
+                None => self.next_by_proxy(now),
             }
         } else {
-            match self.next_by_proxy(premises, poller, now) {
-                Some(arrival) => Some(arrival),
-                None => self.next_at_port(premises, now),
+            match self.next_by_proxy(now) {
+                Some(accepted) => Some(accepted),
+                None => self.next_at_port(now),
             }
-        }
-    }
-
-    /// Goes on with the connection of this key, of which the header is awaited. It comes back where
-    /// it is the first worker's own.
-    pub(crate) fn follow<R, J: Run, D: Desk, L: Log>(
-        &mut self,
-        premises: &Premises<'_, R, J, D, L>,
-        poller: &Poller,
-        key: usize,
-    ) -> Option<Arrival>
-    where
-        R: Wait + Clock + AllocGlobal + Eprint + LogFiles,
-    {
-        let greeting = self.greetings.try_remove(key)?;
-        self.greet(premises, poller, greeting, true)
-    }
-
-    // The key of a connection of which the header was awaited for too long.
-    fn late(&self, now: Option<u64>) -> Option<usize> {
-        for (key, greeting) in self.greetings.iter() {
-            if greeting.is_over(now) {
-                return Some(key);
-            }
-        }
-        None
-    }
-
-    /// Gives up a number of connections of which the header was awaited for too long.
-    pub(crate) fn sweep<R, J: Run, D: Desk, L: Log>(
-        &mut self,
-        premises: &Premises<'_, R, J, D, L>,
-        now: Option<u64>,
-    )
-    where
-        R: Wait + Clock + AllocGlobal + Eprint + LogFiles,
-    {
-        for _ in 0..MOST_AT_ONCE {
-            let Some(key) = self.late(now) else {
-                return;
-            };
-            let _ = self.greetings.try_remove(key);
-            premises.intake.turned_away().refuse_header(premises);
         }
     }
 }

@@ -1,6 +1,8 @@
 //! Which devices may call.
 
 ghost use Rattle.std.specs.Prelude.{◌≡◌, None, Some, is_some, IfOk, IfErr};
+ghost use Rattle.std.specs.Option.{option_map};
+ghost use Rattle.tac_devices.specs.Devices.{IsFound, IsDeviceAt, spot_of};
 ghost use Rattle.tac_net.specs.Callers as callers;
 ghost use Rattle.tac_net.specs.declared.callers.Callers.TheVariants.{Listed};
 ghost use Rattle.tac_net.specs.declared.peer.Way.TheVariants.{Proxy};
@@ -11,7 +13,7 @@ use crate::peer::Way;
 use std::alloc::{AllocError, Global};
 use std::net::IpAddr;
 use tac_audit::{CameBy, Named, WhyTurnedAway};
-use tac_devices::{Device, Tls};
+use tac_devices::{Device, Devices, Spot, Tls};
 use tac_first::{Keys, Shown, shown_by};
 use tac_proxy::Certificate;
 use tac_wire::{Door, KeyDoor};
@@ -52,6 +54,17 @@ pub(crate) enum Found<'a> {
     /// This one, inside TLS.
     Certified(&'a Device, &'a ClearDoor),
 }
+
+/// The number under which a device was found: that of its list, and its own there. Where devices
+/// aren't listed it says nothing. It is a guess for a later look, which is right whatever it says.
+#[derive(Clone, Copy)]
+pub(crate) struct DeviceNumber {
+    list: usize,
+    device: usize,
+}
+
+/// That of whom has none.
+const UNNUMBERED: DeviceNumber = DeviceNumber { list: 0, device: 0 };
 
 /// Who calls: the door of its connection, and how lines of a log name it.
 #[derive(Clone, Copy)]
@@ -203,23 +216,65 @@ impl<'a> Found<'a> {
     }
 }
 
+// Where an address is in a list, of which a guess may say which device it is.
+fn spot_at<'a>(devices: &'a Devices, number: Option<usize>, address: &IpAddr) -> Option<Spot<'a>>
+    ensures { IsFound devices.now address.now (option_map spot_of result) }
+{
+    match number {
+        Some(number) => devices.spot_near(number, address),
+        None => devices.spot(address),
+    }
+}
+
+// The device at an address, and its number in the list.
+fn device_at<'a>(
+    devices: &'a Devices,
+    number: Option<usize>,
+    address: &IpAddr,
+) -> Option<(&'a Device, usize)>
+    ensures { IsDeviceAt devices.now address.now (option_map (λ found. found.0.now) result) }
+{
+    match spot_at(devices, number, address) {
+        Some(Spot { device, number, .. }) => Some((device, number)),
+        None => None,
+    }
+}
+
+// The guess at a number in this list, if there is one. One of another list says nothing.
+fn number_in(list: usize, guess: Option<DeviceNumber>) -> Option<usize> {
+    let guess = guess?;
+    if guess.list == list {
+        Some(guess.device)
+    } else {
+        None
+    }
+}
+
 // The device at this address, which comes this way, or why it is refused.
 fn find_listed<'a>(
     directory: &'a Directory,
     proxy: &'a Option<ClearDoor>,
     address: &IpAddr,
     way: &Way,
-) -> Result<Found<'a>, (WhyTurnedAway, Option<Named>)>
+    guess: Option<DeviceNumber>,
+) -> Result<(Found<'a>, DeviceNumber), (WhyTurnedAway, Option<Named>)>
     ensures found { IfOk result (λ found.
-        callers.IsFoundAt (Listed directory.now proxy.now) address.now way.now found) }
+        callers.IsFoundAt (Listed directory.now proxy.now) address.now way.now found.0) }
     ensures refused { IfErr result (λ refused. callers.IsRefused (Listed directory.now proxy.now)
         address.now way.now refused.0 refused.1) }
 {
-    let Some(device) = directory.devices().find(address) else {
+    let (list, devices) = directory.latest();
+    let Some((device, number)) = device_at(devices, number_in(list, guess), address) else {
         return Err((WhyTurnedAway::UnknownDevice, None));
     };
     match found_as(proxy, device, way) {
-        Ok(found) => Ok(found),
+        Ok(found) => Ok((
+            found,
+            DeviceNumber {
+                list,
+                device: number,
+            },
+        )),
         Err(why) => Err((why, named_by(device, way))),
     }
 }
@@ -243,23 +298,28 @@ impl Callers {
 
     /// Who is found at this address that comes this way, if a device may call so; else why not, and
     /// how lines name its device, if it is known. An IPv4 address that came as IPv6 is looked up as
-    /// IPv4. Linear in the prefixes that are listed; no memory.
+    /// IPv4. Linear in the prefixes that are listed; no memory. Where the number is given under
+    /// which it was found before, it is mostly constant
+    /// ([`spot_near`](tac_devices::Devices::spot_near)), unless other devices count since.
     pub(crate) fn find(
         &self,
         address: &IpAddr,
         way: &Way,
-    ) -> Result<Found<'_>, (WhyTurnedAway, Option<Named>)>
+        guess: Option<DeviceNumber>,
+    ) -> Result<(Found<'_>, DeviceNumber), (WhyTurnedAway, Option<Named>)>
         ensures found { IfOk result (λ found.
-            callers.IsFoundAt self.now address.now way.now found) }
+            callers.IsFoundAt self.now address.now way.now found.0) }
         ensures refused { IfErr result (λ refused.
             callers.IsRefused self.now address.now way.now refused.0 refused.1) }
     {
         match self {
             Callers::Any(key) => match way {
-                Way::Port => Ok(Found::Anyone(key)),
+                Way::Port => Ok((Found::Anyone(key), UNNUMBERED)),
                 Way::Proxy(_) => Err((WhyTurnedAway::NoTls, None)),
             },
-            Callers::Listed { directory, proxy } => find_listed(directory, proxy, address, way),
+            Callers::Listed { directory, proxy } => {
+                find_listed(directory, proxy, address, way, guess)
+            }
         }
     }
 }

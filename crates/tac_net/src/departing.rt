@@ -6,7 +6,7 @@ ghost use Rattle.tac_net.specs.Callers.{IsFoundAt};
 ghost use Rattle.tac_net.specs.Fates as fates;
 
 use crate::callers::{Callers, Found};
-use crate::peer::Peer;
+use crate::peer::KnownPeer;
 use crate::socket::Socket;
 use std::time::Clock;
 use tac_audit::WhyTurnedAway;
@@ -70,14 +70,18 @@ fn by_refusal(why: WhyTurnedAway) -> Departure
 
 /// Who is found at the other end of a connection that was accepted, if a device may still call so;
 /// else why the connection ends.
-pub(crate) fn found_again<'a>(callers: &'a Callers, peer: &Peer) -> Result<Found<'a>, Departure>
+pub(crate) fn found_again<'a>(
+    callers: &'a Callers,
+    known: &KnownPeer,
+) -> Result<Found<'a>, Departure>
     ensures found { IfOk result (λ found.
-        IsFoundAt callers.now (socket_ip peer.now.address) peer.now.way found) }
+        IsFoundAt callers.now (socket_ip known.now.peer.address) known.now.peer.way found) }
     ensures gone { IfErr result (λ gone.
-        fates.IsGone callers.now (socket_ip peer.now.address) peer.now.way gone) }
+        fates.IsGone callers.now (socket_ip known.now.peer.address) known.now.peer.way gone) }
 {
-    match callers.find(&peer.address.ip(), &peer.way) {
-        Ok(found) => Ok(found),
+    let KnownPeer { peer, number } = known;
+    match callers.find(&peer.address.ip(), &peer.way, Some(*number)) {
+        Ok((found, _)) => Ok(found),
         Err((why, _)) => Err(by_refusal(why)),
     }
 }

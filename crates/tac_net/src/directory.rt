@@ -65,13 +65,22 @@ impl Directory {
         self.later.get_seen(index, &seen)
     }
 
+    /// The devices that count now, and the number of their list.
+    pub(crate) fn latest(&self) -> (usize, &Devices)
+        ensures { WasListed self.now result.1.now }
+    {
+        let number = self.latest.load(Ordering::SeqCst);
+        match self.at(number) {
+            Some(devices) => (number, devices),
+            None => (0, &self.first),
+        }
+    }
+
     /// The devices that count now.
     pub fn devices(&self) -> &Devices
         ensures { WasListed self.now result.now }
     {
-        match self.at(self.latest.load(Ordering::SeqCst)) {
-            Some(devices) => devices,
-            None => &self.first,
-        }
+        let (_, devices) = self.latest();
+        devices
     }
 }

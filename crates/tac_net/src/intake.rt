@@ -5,7 +5,7 @@ ghost use Rattle.tac_net.specs.Fates as fates;
 
 use crate::misfits::Misfits;
 use crate::packet_memory::PacketMemory;
-use crate::peer::Peer;
+use crate::peer::KnownPeer;
 use crate::poller::{Poller, WOKEN};
 use crate::settings::Settings;
 use crate::turned_away::TurnedAway;
@@ -21,12 +21,12 @@ use std::sync::{Mutex, Wait};
 use tac_census::{Census, Refusal};
 use tac_status::{ConnectionCounts, Departure, Rejection};
 
-/// A connection that was accepted: its stream, who is at its other end, and what was read of it
-/// already, after what a proxy told.
+/// A connection that was accepted: its stream, who calls, and what was read of it already, after
+/// what a proxy told.
 #[derive(Drop)]
 pub(crate) struct Arrival {
     pub(crate) stream: TcpStream,
-    pub(crate) peer: Peer,
+    pub(crate) known: KnownPeer,
     pub(crate) begun: Vec<u8>,
 }
 
@@ -171,19 +171,15 @@ impl Intake {
         idlest
     }
 
-    // Hands a connection to this worker, for which it was counted. It comes back where that is the
-    // first one, who accepted it.
-    fn hand<R: Wait>(
+    /// Hands a connection to another worker, for which it was counted.
+    pub(crate) fn hand<R: Wait>(
         &self,
         rt: &R,
         counts: &ConnectionCounts,
         at: usize,
         arrival: Arrival,
-    ) -> Option<Arrival> {
-        if at == 0 {
-            return Some(arrival);
-        }
-        let address = arrival.peer.address.ip();
+    ) {
+        let address = arrival.known.peer.address.ip();
         let is_handed = match self.inboxes.get(at) {
             Some(inbox) => inbox.hand(rt, arrival),
             None => false,
@@ -192,7 +188,6 @@ impl Intake {
             self.leave(rt, at, address);
             counts.end(Departure::Memory);
         }
-        None
     }
 
     /// What is said of connections that are closed as soon as they come.
@@ -225,25 +220,28 @@ impl Intake {
         }
     }
 
-    /// Finds a worker for a connection that the first one accepted, of whose address there may be
-    /// so many, or any number where that is 0. It comes back where that is the first one's own.
-    /// Else it is that worker's, or is closed where there are too many.
+    /// Finds a worker for a connection that the first one accepted, from an address of which there
+    /// may be so many, or any number where that is 0. It is counted, and is to be that worker's
+    /// then; else there are too many.
     pub(crate) fn place<R: Wait>(
         &self,
         rt: &R,
         counts: &ConnectionCounts,
-        arrival: Arrival,
+        address: IpAddr,
         most: u32,
-    ) -> Result<Option<Arrival>, Rejection> {
-        let (at, inbox) = self.admit(rt, arrival.peer.address.ip(), most)?;
+    ) -> Result<usize, Rejection> {
+        let (at, inbox) = self.admit(rt, address, most)?;
         counts.accept();
         inbox.count();
-        let own = self.hand(rt, counts, at, arrival);
-        // at last, since a worker may end once nothing more is to come
+        Ok(at)
+    }
+
+    /// A connection for which a worker was found is that worker's. It is told after that, since a
+    /// worker may end once nothing more is to come.
+    pub(crate) fn settle(&self) {
         if self.left.fetch_sub(1, Ordering::SeqCst) == 1 {
             self.wake_all();
         }
-        Ok(own)
     }
 
     /// What was handed to a worker since it asked last. The list that it gives is empty.

@@ -2,9 +2,11 @@
 
 use crate::callers::Callers;
 use crate::departing::found_again;
+use crate::intake::Arrival;
 use crate::packet_memory::{PacketMemory, PacketShare};
 use crate::patience::{Idle, Patience};
-use crate::peer::Peer;
+use crate::peer::KnownPeer;
+use mio::net::TcpStream;
 use std::alloc::{AllocError, Global};
 use std::io::{ErrorKind, Read};
 use tac_first::Shown;
@@ -15,16 +17,32 @@ use tac_worker::Chunk;
 /// than the longest packet takes.
 const READS: u32 = 32;
 
-/// A connection that was accepted, as a stream that never waits, and what came on it. Where its
-/// device has two keys its first packet is to show which it is (RFC 8907, section 4.5), and until
-/// then nothing is served.
+/// A connection that was accepted, as a stream that never waits, and what came on it. Nothing of it
+/// is served: a proxy is to tell who calls; or its device has two keys, of which its first packet
+/// is to show one (RFC 8907, section 4.5).
 #[derive(Drop)]
 pub struct Lead<'a, S> {
     pub(crate) stream: S,
-    pub(crate) peer: Peer,
     pub(crate) patience: Patience,
     pub(crate) share: PacketShare<'a>,
     pub(crate) begun: Vec<u8>,
+}
+
+/// What came of a read.
+#[derive(Clone, Copy, PartialEq, Eq)]
+pub(crate) enum Came {
+    /// Bytes, or it was interrupted. There may be more.
+    Bytes,
+    /// Nothing yet.
+    Nothing,
+    /// The end.
+    End,
+    /// An error.
+    Error,
+    /// Bytes for which there was no memory.
+    Memory,
+    /// Bytes for which there was no packet memory.
+    PacketMemory,
 }
 
 fn by_memory(_error: AllocError) -> Departure {
@@ -36,7 +54,6 @@ impl<'a, S> Lead<'a, S> {
     /// nothing.
     pub fn new(
         stream: S,
-        peer: Peer,
         begun: Vec<u8>,
         memory: &'a PacketMemory,
         now: Option<u64>,
@@ -45,7 +62,6 @@ impl<'a, S> Lead<'a, S> {
         let _ = share.grow(begun.len());
         Lead {
             stream,
-            peer,
             patience: Patience::accepted(now),
             share,
             begun,
@@ -56,51 +72,78 @@ impl<'a, S> Lead<'a, S> {
     pub(crate) fn is_over(&self, idle: Idle, now: Option<u64>) -> bool {
         self.patience.is_over(idle, false, now)
     }
+}
 
-    // Which of its device's keys it has, as far as what came shows it.
-    fn shown(&self, alloc: Global, callers: &Callers) -> Result<Option<Shown>, Departure> {
-        found_again(callers, &self.peer)?
-            .shown_by(alloc, self.begun.as_slice())
-            .map_err(by_memory)
+impl Lead<'_, TcpStream> {
+    /// It, once it is known who calls.
+    pub(crate) fn into_arrival(self, known: KnownPeer) -> Arrival {
+        let Lead {
+            stream,
+            patience: _,
+            share: _,
+            begun,
+        } = self;
+        Arrival {
+            stream,
+            known,
+            begun,
+        }
     }
 }
 
 impl<S: Read> Lead<'_, S> {
     // Keeps what a read gave.
-    fn keep(&mut self, piece: &[u8]) -> Result<(), Departure> {
+    fn keep(&mut self, piece: &[u8]) -> Came {
         if !self.share.grow(piece.len()) {
-            return Err(Departure::PacketMemory);
+            return Came::PacketMemory;
         }
-        self.begun.extend_from_slice(piece).map_err(by_memory)
+        match self.begun.extend_from_slice(piece) {
+            Ok(()) => Came::Bytes,
+            Err(_) => Came::Memory,
+        }
     }
 
-    // Reads once. The answer is whether there may be more.
-    fn read(&mut self, chunk: &mut Chunk) -> Result<bool, Departure> {
-        match self.stream.read(chunk) {
-            Ok(0) => Err(Departure::Finished),
-            Ok(n) => {
-                self.keep(&chunk[..n])?;
-                Ok(true)
-            }
+    /// Reads once, as much as there is room for.
+    pub(crate) fn read(&mut self, room: &mut [u8]) -> Came {
+        match self.stream.read(room) {
+            Ok(0) => Came::End,
+            Ok(n) => self.keep(&room[..n]),
             Err(error) => match error.kind() {
-                ErrorKind::WouldBlock => Ok(false),
-                ErrorKind::Interrupted => Ok(true),
-                _ => Err(Departure::Read),
+                ErrorKind::WouldBlock => Came::Nothing,
+                ErrorKind::Interrupted => Came::Bytes,
+                _ => Came::Error,
             },
         }
     }
 
-    /// Which of its device's keys it has, once that is shown. Reads what is there until then. The
-    /// error says why the connection is over before that.
+    // Reads once. The answer is whether there may be more.
+    fn goes_on(&mut self, chunk: &mut Chunk) -> Result<bool, Departure> {
+        match self.read(chunk) {
+            Came::Bytes => Ok(true),
+            Came::Nothing => Ok(false),
+            Came::End => Err(Departure::Finished),
+            Came::Error => Err(Departure::Read),
+            Came::Memory => Err(Departure::Memory),
+            Came::PacketMemory => Err(Departure::PacketMemory),
+        }
+    }
+
+    /// Which of the keys of the device that calls it has, once that is shown. Reads what is there
+    /// until then. The error says why the connection is over before that: no device may call so any
+    /// more, among others.
     pub(crate) fn look(
         &mut self,
         alloc: Global,
         callers: &Callers,
+        known: KnownPeer,
         chunk: &mut Chunk,
     ) -> Result<Option<Shown>, Departure> {
+        let found = found_again(callers, &known)?;
         for _ in 0..READS {
-            let shown = self.shown(alloc, callers)?;
-            if shown.is_some() || !self.read(chunk)? {
+            let shown = found
+                .shown_by(alloc, self.begun.as_slice())
+                .map_err(by_memory)?;
+            if shown.is_some() || !self.goes_on(chunk)? {
                 return Ok(shown);
             }
         }

@@ -58,7 +58,7 @@ fn wait_of<R: Net>(rt: &R, alloc: Global, listeners: &Listeners, at: u32) -> io:
     let proxy = proxy_of(&poller, &listeners.proxy)?;
     Ok(Waits {
         poller,
-        acceptor: Some(Acceptor::new(alloc, port, proxy)),
+        acceptor: Some(Acceptor::new(port, proxy)),
     })
 }
 

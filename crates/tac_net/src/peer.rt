@@ -1,5 +1,6 @@
 //! The other end of a connection.
 
+use crate::callers::DeviceNumber;
 use std::net::SocketAddr;
 use tac_proxy::Certificate;
 
@@ -17,4 +18,11 @@ pub enum Way {
 pub struct Peer {
     pub address: SocketAddr,
     pub way: Way,
+}
+
+/// Who calls on a connection, and under which number its device was found as it was accepted.
+#[derive(Clone, Copy)]
+pub(crate) struct KnownPeer {
+    pub(crate) peer: Peer,
+    pub(crate) number: DeviceNumber,
 }

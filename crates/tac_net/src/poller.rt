@@ -19,13 +19,6 @@ pub(crate) const CALLED: Token = Token(usize::MAX - 1);
 /// What an event of the proxy's socket has for a key.
 pub(crate) const CALLED_BY_PROXY: Token = Token(usize::MAX - 2);
 
-/// What the keys of connections have in common of which the first packet is awaited, and no others
-/// but the three above.
-const LEAD: usize = usize::MAX / 2 + 1;
-
-/// The same of those of which a proxy's header is awaited.
-const GREETING: usize = usize::MAX / 4 + 1;
-
 /// How many events one wait tells at most.
 const MOST_EVENTS: usize = 256;
 
@@ -40,34 +33,6 @@ impl Drop for Poller {
     fn drop(self) {
         let Poller { poll: _, events: _ } = self;
     }
-}
-
-/// The key for a wait of the connection under this key among those of which the first packet is
-/// awaited.
-pub(crate) fn lead_key(key: usize) -> usize {
-    LEAD | key
-}
-
-/// The key among these of what an event has for a key, if it is of one of them.
-pub(crate) fn lead_of(key: usize) -> Option<usize> {
-    if key & LEAD == 0 {
-        return None;
-    }
-    Some(key & !LEAD)
-}
-
-/// The key for a wait of the connection under this key among those of which a proxy's header is
-/// awaited.
-pub(crate) fn greeting_key(key: usize) -> usize {
-    GREETING | key
-}
-
-/// The key among these of what an event has for a key, if it is of one of them.
-pub(crate) fn greeting_of(key: usize) -> Option<usize> {
-    if key & LEAD != 0 || key & GREETING == 0 {
-        return None;
-    }
-    Some(key & !GREETING)
 }
 
 // What a wait is to tell of a socket, which waits for room to write or not.
@@ -114,7 +79,7 @@ impl Poller {
             .register(&mut SourceFd(&descriptor), Token(key), interest(is_full))
     }
 
-    /// The same of a socket that is registered, whatever its key was.
+    /// The same of a socket that is registered.
     pub(crate) fn register_again<S: AsRawFd>(
         &self,
         socket: &S,

@@ -49,10 +49,11 @@ pub(crate) fn now<C: Clock>(clock: &C) -> Option<u64> {
 }
 
 impl<'a, S, C: Clock> Socket<'a, S, C> {
-    /// That of a connection by this door. What came on it is read again first. Replies
-    /// to failed logins are held back for so many milliseconds.
+    /// That of a connection from this address by this door. What came on it is read again first.
+    /// Replies to failed logins are held back for so many milliseconds.
     pub fn new(
         lead: Lead<'a, S>,
+        address: IpAddr,
         door: &'a Door,
         clock: &'a C,
         visits: &'a Visits,
@@ -60,14 +61,13 @@ impl<'a, S, C: Clock> Socket<'a, S, C> {
     ) -> Socket<'a, S, C> {
         let Lead {
             stream,
-            peer,
             patience,
             share,
             begun,
         } = lead;
         Socket {
             stream,
-            address: peer.address.ip(),
+            address,
             door,
             clock,
             patience,

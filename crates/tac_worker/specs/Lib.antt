@@ -11,4 +11,5 @@ pub mod Calls
 pub mod Steps
 pub mod Board
 pub mod Boarding
+pub mod SeatBoard
 pub mod Steady

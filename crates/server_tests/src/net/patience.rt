@@ -3,9 +3,9 @@
 use std::alloc::Global;
 use std::cell::Cell;
 use std::io::{self, ErrorKind, Read, Write};
-use std::net::{Ipv4Addr, SocketAddr};
+use std::net::{IpAddr, Ipv4Addr};
 use std::time::{Clock, Duration};
-use tac_net::{Idle, Lead, PacketMemory, Peer, Socket, Visits, Way};
+use tac_net::{Idle, Lead, PacketMemory, Socket, Visits};
 use tac_wire::{Door, Key};
 
 /// A clock that a test sets.
@@ -154,16 +154,13 @@ fn is_borne(alloc: Global, idle: Idle, steps: &str) -> bool {
     let device = Device {
         letter: Cell::new(b's'),
     };
-    let peer = Peer {
-        address: SocketAddr::from((Ipv4Addr::LOCALHOST, 1)),
-        way: Way::Port,
-    };
+    let address = IpAddr::V4(Ipv4Addr::LOCALHOST);
     let Some(key) = Key::read(b"k") else {
         return false;
     };
     let door = Door::Padded(key);
-    let lead = Lead::new(&device, peer, Vec::new(alloc), &memory, Some(0));
-    let mut socket = Socket::new(lead, &door, &clock, &visits, FAIL_DELAY);
+    let lead = Lead::new(&device, Vec::new(alloc), &memory, Some(0));
+    let mut socket = Socket::new(lead, address, &door, &clock, &visits, FAIL_DELAY);
     for step in steps.split(' ') {
         if !is_so(&clock, idle, &visits, &device, &mut socket, step) {
             return false;

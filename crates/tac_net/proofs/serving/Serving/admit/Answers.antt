@@ -1,7 +1,7 @@
 use Rattle.std.proofs.Common.{arith}
 use Rattle.tac_net.specs.Witness.{Takes, Refuses}
 use Rattle.tac_net.proofs.StandingFacts.{stands_added}
-use Rattle.tac_net.proofs.worker.Worker.admit.Goals as goal
+use Rattle.tac_net.proofs.serving.Serving.admit.Goals as goal
 
 pub invariant_of-self-2 : goal.invariant_of-self-2
 invariant_of-self-2 g c =

@@ -13,8 +13,8 @@ use Rattle.tac_conn.specs.History.{outcome}
 use Rattle.tac_desk.specs.Meaning.{Meaning}
 use Rattle.tac_desk.specs.Serving.{Said, says}
 use Rattle.tac_desk.proofs.ServingFacts.{unless_closed-same}
-use Rattle.tac_net.specs.Shared.{says_shared, said_shared}
-use Rattle.tac_net.specs.Clear.{IsFlagged, hidden, ClearLaw}
+use Rattle.tac_sharing.specs.Shared.{says_shared, said_shared}
+use Rattle.tac_sharing.specs.Clear.{IsFlagged, hidden, ClearLaw}
 
 abbrev with_body : Header → List ℕ → Packet
 with_body header body = record { header = header; body = body }

@@ -19,7 +19,7 @@ use Rattle.tac_desk.specs.Asking.{asked}
 use Rattle.tac_worker.specs.Served.{Sending, carrying, served_for, asked_by, served_to, asks_in, served, asks, bytes_sent}
 use Rattle.tac_desk.specs.Serving.{Said, says, sent_before, unless_closed, said_to, said_on, sent_bytes}
 use Rattle.tac_desk.proofs.ServingFacts.{packets_of-append, said_to-append, unless_closed-same, unless_closed-joined}
-use Rattle.tac_net.specs.Shared.{says_shared, said_shared, answers_by, along, packets_in, said_shared_on, PieceLaw, AloneLaw, AloneStreamLaw, SentLaw, SentStreamLaw}
+use Rattle.tac_sharing.specs.Shared.{says_shared, said_shared, answers_by, along, packets_in, said_shared_on, PieceLaw, AloneLaw, AloneStreamLaw, SentLaw, SentStreamLaw}
 
 -- ---- one packet, and those after it
 

@@ -14,8 +14,8 @@ use Rattle.tac_stream.specs.Turns.{packets_of, closed_by}
 use Rattle.tac_desk.specs.Meaning.{Meaning}
 use Rattle.tac_worker.specs.Served.{asked_by, asks_in}
 use Rattle.tac_desk.specs.Serving.{Said, says, unless_closed}
-use Rattle.tac_net.specs.Shared.{says_shared, said_shared, CloseLaw}
-use Rattle.tac_net.proofs.SharedFacts.{history}
+use Rattle.tac_sharing.specs.Shared.{says_shared, said_shared, CloseLaw}
+use Rattle.tac_sharing.proofs.SharedFacts.{history}
 
 -- ---- the packets that came
 

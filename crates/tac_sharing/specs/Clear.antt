@@ -6,7 +6,7 @@ use Rattle.tac_wire.specs.Stream.{Tail}
 use Rattle.tac_wire.specs.declared.door.Door.TheVariants.{Padded, Clear}
 use Rattle.tac_wire.specs.declared.frame.Frame.{Frame}
 use Rattle.tac_desk.specs.Meaning.{Meaning}
-use Rattle.tac_net.specs.Shared.{said_shared}
+use Rattle.tac_sharing.specs.Shared.{said_shared}
 
 -- a packet that says that its body has no pad
 abbrev pub IsFlagged : Frame → Type 0

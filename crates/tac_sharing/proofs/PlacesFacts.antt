@@ -27,10 +27,10 @@ use Rattle.tac_hall.specs.Seat.{Seated, CatchesUp}
 use Rattle.tac_worker.specs.Calls.{Call, exchanges, calls_of}
 use Rattle.tac_worker.specs.Board.{IsAccounted}
 use Rattle.tac_worker.proofs.AccountFacts.{served_by_its_own, open_by_its_own}
-use Rattle.tac_net.specs.Shared.{packets_in, answers_by}
-use Rattle.tac_net.specs.Connections.{IsTold, IsRefused, DeskLine}
-use Rattle.tac_net.specs.Places.{calls_before, StoodAt, IsSaid, LeavesUnput, IsSaidOn, PlacesLaw}
-use Rattle.tac_net.proofs.SharedFacts.{sent_on, sent_stream_law}
+use Rattle.tac_sharing.specs.Shared.{packets_in, answers_by}
+use Rattle.tac_worker.specs.SeatBoard.{IsTold, IsRefused, DeskLine}
+use Rattle.tac_sharing.specs.Places.{calls_before, StoodAt, IsSaid, LeavesUnput, IsSaidOn, PlacesLaw}
+use Rattle.tac_sharing.proofs.SharedFacts.{sent_on, sent_stream_law}
 
 -- ---- the calls of a log, one after another
 

@@ -1,7 +1,7 @@
 use Rattle.std.proofs.Common.{arith}
 use Rattle.tac_net.specs.Witness.{Takes, Refuses}
 use Rattle.tac_net.proofs.AccountFacts.{served_by}
-use Rattle.tac_net.proofs.worker.Worker.into_seat.Goals as goal
+use Rattle.tac_net.proofs.serving.Serving.into_seat.Goals as goal
 
 pub returns : goal.returns
 returns g c =

@@ -1,8 +1,8 @@
 //! What a worker sends, by what its desk represents.
 
-ghost use Rattle.tac_net.specs.Clear.{ClearLaw};
-ghost use Rattle.tac_net.specs.Places.{PlacesLaw};
-ghost use Rattle.tac_net.specs.Shared.{SharingLaws};
+ghost use Rattle.tac_sharing.specs.Clear.{ClearLaw};
+ghost use Rattle.tac_sharing.specs.Places.{PlacesLaw};
+ghost use Rattle.tac_sharing.specs.Shared.{SharingLaws};
 
 /// Does nothing. The clauses are true of all connections: what a worker sends is what a server says
 /// whose desk represents, at each ask, what the desk that all share represented at that place of

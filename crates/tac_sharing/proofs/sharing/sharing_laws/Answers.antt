@@ -1,8 +1,8 @@
-use Rattle.tac_net.proofs.ClearFacts.{clear_law}
-use Rattle.tac_net.proofs.SharedFacts.{piece_law, alone_law, alone_stream_law, sent_law, sent_stream_law}
-use Rattle.tac_net.proofs.ClosedFacts.{close_law}
-use Rattle.tac_net.proofs.PlacesFacts.{places_law}
-use Rattle.tac_net.proofs.sharing.sharing_laws.Goals as goal
+use Rattle.tac_sharing.proofs.ClearFacts.{clear_law}
+use Rattle.tac_sharing.proofs.SharedFacts.{piece_law, alone_law, alone_stream_law, sent_law, sent_stream_law}
+use Rattle.tac_sharing.proofs.ClosedFacts.{close_law}
+use Rattle.tac_sharing.proofs.PlacesFacts.{places_law}
+use Rattle.tac_sharing.proofs.sharing.sharing_laws.Goals as goal
 
 pub returns-clause-shared : goal.returns-clause-shared
 returns-clause-shared c = record {

@@ -16,8 +16,8 @@ use Rattle.tac_worker.specs.Worked.{Exchange, answers_of}
 use Rattle.tac_worker.specs.Calls.{calls_of}
 use Rattle.tac_worker.specs.Board.{AreAll}
 use Rattle.tac_desk.specs.Serving.{sent_bytes}
-use Rattle.tac_net.specs.Connections.{DeskLine, DeskBoard, IsDeskBoard}
-use Rattle.tac_net.specs.Shared.{said_shared_on, packets_in}
+use Rattle.tac_worker.specs.SeatBoard.{DeskLine, DeskBoard, IsDeskBoard}
+use Rattle.tac_sharing.specs.Shared.{said_shared_on, packets_in}
 
 -- the calls before this place of this segment, in the logs of one segment after another: all of
 -- earlier segments, and those before the place in its own

@@ -1,6 +1,6 @@
 use Rattle.tac_net.specs.Witness.{Takes, Refuses}
 use Rattle.tac_net.proofs.StandingFacts.{stands_removed}
-use Rattle.tac_net.proofs.worker.Worker.remove.Goals as goal
+use Rattle.tac_net.proofs.serving.Serving.remove.Goals as goal
 
 pub invariant_of-self : goal.invariant_of-self
 invariant_of-self g c =

@@ -1,5 +1,5 @@
 use Rattle.tac_net.proofs.CallerFacts.{may_call}
-use Rattle.tac_net.proofs.worker.terms_of.Goals as goal
+use Rattle.tac_net.proofs.serving.terms_of.Goals as goal
 
 pub returns-in-Ok-clause-may : goal.returns-in-Ok-clause-may
 returns-in-Ok-clause-may g c =

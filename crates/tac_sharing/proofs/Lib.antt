@@ -1,0 +1,4 @@
+pub mod SharedFacts
+pub mod PlacesFacts
+pub mod ClosedFacts
+pub mod ClearFacts
