@@ -1,8 +1,7 @@
 -- A prefix that an address begins with is its nearest where none is longer.
-use Rattle.std.proofs.Common.{◌≡◌, ℕ, ◌+◌, suc, drop, get_or, length, max, ◌<◌, ◌≤◌, eqb, Bool, true, false, cond, ◌&&◌, List, [], ◌∷◌, ◌++◌, map, nat_lt, Option, Some, None, All, Contains, refl, subst, sym, ap, ◌∙◌, append_assoc, arith}
+use Rattle.std.proofs.Common.{◌≡◌, ℕ, ◌+◌, zero, suc, drop, get_or, length, max, ◌<◌, ◌≤◌, eqb, Bool, true, false, cond, List, [], ◌∷◌, ◌++◌, map, Some, All, Contains, refl, subst, sym, ap, ◌∙◌, arith}
 use Rattle.std.specs.Prelude.{nat_le, find, slice_get, slice_index_or}
 use Rattle.std.proofs.lemmas.Bool.{and_parts, eqb-true, leb-true}
-use Rattle.std.proofs.lemmas.Bool.Decides.{nat_tests}
 use Rattle.std.proofs.Math.Seq.{drop-cons}
 use Rattle.std.proofs.Math.ListN.{drop_of_length-le}
 use Rattle.std.proofs.lemmas.List.Elements.{All-nil, All-cons, All-head, All-weaker, All-contains_itself, Contains-append_left, Contains-append_right}
@@ -71,27 +70,27 @@ contains_first x xs = All-head (Contains (x ∷ xs)) x xs (All-contains_itself (
 
 found_inside : (test : Place → Bool) (places : List Place) (place : Place) → find test places ≡ Some place → Contains places place × (test place ≡ true)
 found_inside test [] place e = absurd cc
-found_inside test (x ∷ places) place e = by (test x) refl e
+found_inside test (x ∷ places) place e = by (test x) refl e (λ f. found_inside test places place f)
   where
     same : Some x ≡ Some place → test x ≡ true → Contains (x ∷ places) place × (test place ≡ true)
     same f t = let is : x ≡ place = cc in subst (λ (p : Place). Contains (x ∷ places) p × (test p ≡ true)) is (contains_first x places, t)
 
-    by : (b : Bool) → test x ≡ b → cond b (Some x) (find test places) ≡ Some place → Contains (x ∷ places) place × (test place ≡ true)
-    by true t f = same f t
-    by false t f = let more = found_inside test places place f in (Contains-append_right (x ∷ []) places place more.0, more.1)
+    by : (b : Bool) → test x ≡ b → cond b (Some x) (find test places) ≡ Some place → (find test places ≡ Some place → Contains places place × (test place ≡ true)) → Contains (x ∷ places) place × (test place ≡ true)
+    by true t f rest = same f t
+    by false t f rest = let more = rest f in (Contains-append_right (x ∷ []) places place more.0, more.1)
 
-spots_of_inside : (device : Device) (places : List Place) (place : Place) → Contains places place → Contains (map (λ (p : Place). (device, p)) places) (device, place)
+spots_of_inside : (device : Device) (places : List Place) (place : Place) → Contains places place → Contains {X = Spot} (map (λ (p : Place). (device, p)) places) (device, place)
 spots_of_inside device [] place h = absurd (omega (arith, h.1))
-spots_of_inside device (x ∷ places) place h = by h.0 h.1 h.2
+spots_of_inside device (x ∷ places) place h = by h.0 h.1 h.2 (λ h. spots_of_inside device places place h)
   where
     others : List Spot
     others = map (λ (p : Place). (device, p)) places
 
-    by : (k : ℕ) → k < length (x ∷ places) → slice_index_or (x ∷ places) k place ≡ place → Contains ((device, x) ∷ others) (device, place)
-    by zero lt e = subst (λ (p : Place). Contains ((device, x) ∷ others) (device, p)) e (contains_first (device, x) others)
-    by (suc k) lt e = Contains-append_right ((device, x) ∷ []) others (device, place) (spots_of_inside device places place (k, omega (arith, lt), e))
+    by : (k : ℕ) → k < length (x ∷ places) → slice_index_or (x ∷ places) k place ≡ place → (Contains places place → Contains {X = Spot} others (device, place)) → Contains {X = Spot} ((device, x) ∷ others) (device, place)
+    by zero lt e rest = subst (λ (p : Place). Contains ((device, x) ∷ others) (device, p)) e (contains_first (device, x) others)
+    by (suc k) lt e rest = Contains-append_right ((device, x) ∷ []) others (device, place) (rest (k, omega (arith, lt), e))
 
-spots_inside : (devices : List Device) (number : ℕ) (device : Device) (place : Place) → slice_get devices number ≡ Some device → Contains device.places place → Contains (spots devices) (device, place)
+spots_inside : (devices : List Device) (number : ℕ) (device : Device) (place : Place) → slice_get devices number ≡ Some device → Contains device.places place → Contains {X = Spot} (spots devices) (device, place)
 spots_inside [] number device place e h = absurd cc
 spots_inside (d ∷ devices) zero device place e h =
     let is : d ≡ device = cc in
