@@ -347,21 +347,21 @@ def a_device_is_taken_out_in_its_first_packet(program):
 
 def a_device_has_other_keys_in_its_first_packet(program):
     """It goes by the latest file, also where it has another number in that."""
+    renewed = f"device one\nat 127.0.0.1\nkey {THIRD.decode()}\nold-key {NEW.decode()}\n"
     with serving(program, BOTH_KEYS + OTHERS) as server:
-        for source, key, wanted in (("127.0.0.1", THIRD, True), ("127.0.0.1", OLD, False)):
-            put_devices(server, BOTH_KEYS + OTHERS)
-            typed(program, server, "reload devices")
-            with connect(server, source) as device:
+        for key, wanted in ((THIRD, True), (OLD, False)):
+            with connect(server, "127.0.0.1") as device:
                 sent = packet(ASK, key, flag=KEPT)
                 device.sendall(sent[:20])
                 time.sleep(0.1)
-                both = f"device one\nat {source}\nkey {THIRD.decode()}\nold-key {NEW.decode()}\n"
-                put_devices(server, f"device nine\nat {STRANGER}\nkey {OLD.decode()}\n{both}")
+                put_devices(server, f"device nine\nat {STRANGER}\nkey {OLD.decode()}\n{renewed}")
                 told = typed(program, server, "reload devices")
                 require(told == "devices ok: 2 devices, 2 prefixes\n", f"it tells {told}")
                 reply = packet(PERMITTED, key, flag=KEPT)
                 is_served = answer(device, sent[20:], len(reply)) == reply
                 require(is_served == wanted, f"under {key} it is answered: {is_served}")
+            put_devices(server, BOTH_KEYS + OTHERS)
+            typed(program, server, "reload devices")
         ends(program, server, MISFIT)
 
 
