@@ -68,6 +68,14 @@ impl Guest<'_> {
         }
     }
 
+    // Who calls, where its first packet is awaited.
+    fn known(&self) -> Option<KnownPeer> {
+        match self {
+            Guest::FirstPacket(_, known) => Some(*known),
+            Guest::Header(_) | Guest::Served(_) => None,
+        }
+    }
+
     // Whether its header is awaited.
     fn awaits_header(&self) -> bool {
         matches!(self, Guest::Header(_))
@@ -144,8 +152,11 @@ impl<'a> Guests<'a> {
         let Some(guest) = self.guests.get_mut(key) else {
             return Ok(None);
         };
+        let Some(known) = guest.known() else {
+            return Ok(None);
+        };
         match guest {
-            Guest::FirstPacket(lead, known) => lead.look(alloc, callers, *known, chunk),
+            Guest::FirstPacket(lead, _) => lead.look(alloc, callers, known, chunk),
             Guest::Header(_) | Guest::Served(_) => Ok(None),
         }
     }
