@@ -39,8 +39,9 @@ fn refused(
     request: AcctRequest,
 ) -> Result<(Reading, Outcome), AllocError>
     ensures { IfOk result (λ taken. taken ≡ (
-        Account (acct_asker request) None (task_of request.args) request.args,
-        judging.record_outcome slot request None)) }
+      Account (acct_asker request) None (task_of request.args) request.args,
+      judging.record_outcome slot request None,
+    )) }
 {
     let (asker, arguments) = asker_of(request);
     let task = task_id(alloc, arguments.as_slice())?;
@@ -61,8 +62,9 @@ fn stored(
     kind: AcctKind,
 ) -> Result<(Reading, Outcome), AllocError>
     ensures { IfOk result (λ taken. taken ≡ (
-        Account (unnamed (acct_asker request)) (Some kind) [] request.args,
-        judging.record_outcome slot request (Some kind))) }
+      Account (unnamed (acct_asker request)) (Some kind) [] request.args,
+      judging.record_outcome slot request (Some kind),
+    )) }
 {
     let (asker, arguments) = asker_of(request);
     let (asker, user) = asker.parted(alloc);

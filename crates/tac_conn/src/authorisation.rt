@@ -47,8 +47,10 @@ fn asker_of(request: AuthorRequest) -> (Asker, Sequence<Bytes>)
 // A request that is refused as it stands: its arguments make no line.
 fn refused(slot: Slot, request: AuthorRequest, text: &[u8]) -> (Reading, Outcome)
     requires { length text.now ≤ MESSAGE_MAX }
-    ensures { result ≡ (Command (request_asker request) request.args None,
-        judging.ends slot (refusal_of text.now)) }
+    ensures { result ≡ (
+      Command (request_asker request) request.args None,
+      judging.ends slot (refusal_of text.now),
+    ) }
 {
     let (asker, arguments) = asker_of(request);
     (command(asker, arguments), ends(slot, refusal(text)))
@@ -56,8 +58,10 @@ fn refused(slot: Slot, request: AuthorRequest, text: &[u8]) -> (Reading, Outcome
 
 // What is beside an ask of a request, and the user.
 fn parted(alloc: Global, request: AuthorRequest) -> (Reading, Bytes)
-    ensures { result ≡ (Command (unnamed (request_asker request)) request.args None,
-        request.user) }
+    ensures { result ≡ (
+      Command (unnamed (request_asker request)) request.args None,
+      request.user,
+    ) }
 {
     let (asker, arguments) = asker_of(request);
     let (asker, user) = asker.parted(alloc);

@@ -53,8 +53,10 @@ fn told_name(slot: Slot, session: &Session, asker: Asker, name: Bytes) -> (Readi
 
 // The password of this user.
 fn told_password(alloc: Global, slot: Slot, asker: Asker, text: Bytes) -> (Reading, Outcome)
-    ensures { result ≡ (Login (unnamed asker),
-        Asks (Authenticate asker.user (record { 0 = asker.service }) (Plain text)) slot) }
+    ensures { result ≡ (
+      Login (unnamed asker),
+      Asks (Authenticate asker.user (record { 0 = asker.service }) (Plain text)) slot,
+    ) }
 {
     let service = Service(asker.service);
     let (asker, user) = asker.parted(alloc);

@@ -29,4 +29,4 @@ pub use sha_crypt::Hash;
 pub use step::Step;
 pub use tac_authen::Service;
 pub use tac_request::{AcctKind, Arguments, Record};
-pub use typed::Typed;
+pub use typed::{HashRoom, Typed};

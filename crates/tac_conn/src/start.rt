@@ -79,8 +79,10 @@ fn chap_proof(alloc: Global, extra: &[u8]) -> Result<Proof, AllocError>
 
 // This proof of who logs in is asked about.
 fn proven(alloc: Global, slot: Slot, asker: Asker, proof: Proof) -> (Reading, Outcome)
-    ensures { result ≡ (Login (unnamed asker),
-        Asks (Authenticate asker.user (record { 0 = asker.service }) proof) slot) }
+    ensures { result ≡ (
+      Login (unnamed asker),
+      Asks (Authenticate asker.user (record { 0 = asker.service }) proof) slot,
+    ) }
 {
     let service = Service(asker.service);
     let (asker, user) = asker.parted(alloc);

@@ -17,6 +17,38 @@ struct WorkedOut {
     symbols: [u8; 86],
 }
 
+/// The room for what a password makes under the rounds and the salt of a hash. It lies on the heap,
+/// since few questions take it, and each one travels.
+#[derive(Drop)]
+pub struct HashRoom {
+    made: Box<WorkedOut>,
+}
+
+// A contract sees the hash.
+impl Model for HashRoom {
+    ghost use Rattle.sha_crypt.specs.HashText.{HashParts};
+
+    ghost Value = { HashParts };
+
+    ghost view = { λ room. room.made.value.hash };
+}
+
+impl HashRoom {
+    /// That of this hash. The error means that memory ran out.
+    pub fn new(alloc: Global, hash: &Hash) -> Result<HashRoom, AllocError>
+        ensures { IfOk result (λ room. room ≡ hash.now) }
+    {
+        let empty = WorkedOut {
+            hash: *hash,
+            symbols: [0; 86],
+        };
+        match Box::new(alloc, empty) {
+            Ok(made) => Ok(HashRoom { made }),
+            Err(_) => Err(AllocError),
+        }
+    }
+}
+
 impl WorkedOut {
     // What a password makes under the rounds and the salt of this hash.
     fn under(hash: &Hash, password: &[u8]) -> WorkedOut
@@ -47,7 +79,7 @@ impl WorkedOut {
 /// [`Typed::passes`] has only to compare.
 pub struct Typed {
     text: Bytes,
-    worked_out: Option<WorkedOut>,
+    worked_out: Option<Box<WorkedOut>>,
 }
 
 impl Model for Typed {
@@ -62,7 +94,8 @@ impl Model for Typed {
     // Nothing is worked out of a password that can't pass.
     ghost invariant = { λ typed. IfSome typed.worked_out (λ made.
         (0 < length typed.text) × (length typed.text ≤ 128)
-        × (made.symbols ≡ crypted (rounds_of made.hash) made.hash.salt typed.text)) };
+        × (made.value.symbols
+        ≡ crypted (rounds_of made.value.hash) made.value.hash.salt typed.text)) };
 }
 
 // By hand, so that a proof of an owner has one call at each exit, not a drop of each field.
@@ -118,15 +151,11 @@ impl Typed {
         self.text.as_slice()
     }
 
-    /// A copy of the password, with what is worked out of it. The error means that memory ran out.
+    /// A copy of the password, of which nothing is worked out. The error means that memory ran out.
     pub fn copy(&self, alloc: Global) -> Result<Typed, AllocError>
         ensures { IfOk result (λ copy. copy ≡ self.now) }
     {
-        let text = self.text.copy(alloc)?;
-        Ok(Typed {
-            text,
-            worked_out: self.worked_out,
-        })
+        Ok(Typed::new(self.text.copy(alloc)?))
     }
 
     /// Whether [`Typed::passes`] takes the rounds of this hash: the password has a length that can
@@ -143,14 +172,17 @@ impl Typed {
         }
     }
 
-    /// Works out what the password makes under the rounds and the salt of this hash, and keeps it,
-    /// in place of what was kept. Does nothing where [`Typed::takes_rounds`] is false; else the
-    /// time is linear in the rounds.
-    pub fn work_out(&mut self, hash: &Hash)
+    /// Works out what the password makes under the rounds and the salt of the room's hash, and
+    /// keeps it there, in place of what was kept. Does nothing where [`Typed::takes_rounds`] is
+    /// false; else the time is linear in the rounds.
+    pub fn work_out(&mut self, room: HashRoom)
         ensures { self.new ≡ self.old }
     {
-        if self.takes_rounds(hash) {
-            self.worked_out = Some(WorkedOut::under(hash, self.text.as_slice()));
+        let HashRoom { mut made } = room;
+        let hash = made.hash;
+        if self.takes_rounds(&hash) {
+            *made = WorkedOut::under(&hash, self.text.as_slice());
+            self.worked_out = Some(made);
         }
     }
 
@@ -158,8 +190,15 @@ impl Typed {
     pub fn adopt(&mut self, other: Typed)
         ensures { self.new ≡ self.old }
     {
-        if *self == other && other.worked_out.is_some() {
-            self.worked_out = other.worked_out;
+        if *self != other {
+            return;
+        }
+        let Typed {
+            text: _,
+            worked_out,
+        } = other;
+        if worked_out.is_some() {
+            self.worked_out = worked_out;
         }
     }
 

@@ -4,7 +4,7 @@ use basics::Bytes;
 use pol_text::Policy;
 use std::alloc::{AllocError, Global};
 use std::test::Fail;
-use tac_conn::{Answer, Ask, Proof, Service, Typed};
+use tac_conn::{Answer, Ask, HashRoom, Proof, Service, Typed};
 use tac_desk::Desk;
 use tac_desks::{LiveDesk, PlainDesk};
 
@@ -27,7 +27,7 @@ fn logs_in<D: Desk>(alloc: Global, desk: &mut D) -> Result<(), Fail> {
     let hash = desk
         .hash(&login(alloc, password.copy(alloc)?)?)
         .ok_or("no hash")?;
-    password.work_out(&hash);
+    password.work_out(HashRoom::new(alloc, &hash)?);
     let ask = login(alloc, password)?;
     for _ in 0..30_000 {
         if !matches!(desk.ask(&ask), Ok(Answer::Pass)) {
