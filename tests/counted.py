@@ -379,6 +379,21 @@ def logins_without_room(program):
             says(server, CROWDED + READABLE)
 
 
+def the_end_after_logins_without_room(program):
+    """Those that are closed count as served: the server ends once the others are gone, too."""
+    quicker = SLOW.replace("rounds=999999", "rounds=2000")
+    options = ("--no-console", "--workers", "1", "--connections", "400", "--per-address", "0")
+    with Server(program, *options, policy=quicker) as server:
+        with contextlib.ExitStack() as stack:
+            devices = [stack.enter_context(connect(server)) for _ in range(400)]
+            with halted(server):
+                for device in devices:
+                    device.sendall(packet(LOGINS["secret"]))
+                    device.setblocking(False)
+            comes_to(lambda: any(map(is_over, devices)), True)
+        server.ends(complained=CROWDED)
+
+
 def says(server, wanted):
     """That is what standard error says next."""
     stream, came, until = server.process.stderr.fileno(), b"", time.monotonic() + LONGEST_WAIT
