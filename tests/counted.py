@@ -332,6 +332,21 @@ def what_the_system_refuses(program):
             status.after("no memory", "connections -1, ended memory +1")
 
 
+def the_end_after_one_that_cannot_be_watched(program):
+    """It counts as served, so the server ends once the others are gone, too."""
+    errors = {EPOLL_CTL: 0}
+    judged = Judged(lambda call: errors[EPOLL_CTL], EPOLL_CTL, clock=Clock())
+    options = ("--no-console", "--workers", "1", "--connections", "2")
+    with Server(program, *options, before=judged.begin) as server, judged:
+        starts(server)
+        errors[EPOLL_CTL] = -errno.ENOSPC
+        with connect(server) as device:
+            require(is_closed(device, LONGEST_WAIT), "one is kept that can't be watched")
+        errors[EPOLL_CTL] = 0
+        require(is_permitted(server), "the last isn't served")
+        server.ends(is_listening=False)
+
+
 # A packet of 131,087 bytes but for its last ones.
 MOST_OF_IT = bytes.fromhex("c0020104000000010001fff0") + bytes(130_988)
 
@@ -377,21 +392,6 @@ def logins_without_room(program):
             pathlib.Path(server.folder.name, "policy").chmod(0o644)
             told(operator, ("reload", "ok"))
             says(server, CROWDED + READABLE)
-
-
-def the_end_after_logins_without_room(program):
-    """Those that are closed count as served: the server ends once the others are gone, too."""
-    quicker = SLOW.replace("rounds=999999", "rounds=2000")
-    options = ("--no-console", "--workers", "1", "--connections", "400", "--per-address", "0")
-    with Server(program, *options, policy=quicker) as server:
-        with contextlib.ExitStack() as stack:
-            devices = [stack.enter_context(connect(server)) for _ in range(400)]
-            with halted(server):
-                for device in devices:
-                    device.sendall(packet(LOGINS["secret"]))
-                    device.setblocking(False)
-            comes_to(lambda: any(map(is_over, devices)), True)
-        server.ends(complained=CROWDED)
 
 
 def says(server, wanted):

@@ -13,7 +13,7 @@ import re
 import resource
 import time
 
-from lib.cases import LONGEST_WAIT, Check, File, Outcome, Run, Wrong, cases, replay_check, require
+from lib.cases import LONGEST_WAIT, SOON, Check, File, Outcome, Run, Wrong, cases, replay_check, require
 from lib.consoles import Operator, attended, told, typed, types
 from lib.devices import (
     ASK,
@@ -168,6 +168,17 @@ def the_end_awaits_a_first_packet(program):
             require(came == wanted, f"another is answered by {came}")
         came = answer(device, sent[20:], len(wanted))
         require(came == wanted, f"the first is answered by {came}")
+        server.ends()
+
+
+@in_time
+def the_end_awaits_no_header(program):
+    """Who hasn't told who calls when the last is served is closed, and the server ends."""
+    words = {"key": ("--devices", "devices"), "devices": BOTH_KEYS, "proxy": "proxy"}
+    options = ("--no-console", "--workers", "1", "--connections", "1")
+    with Server(program, *options, **words) as server, called(server, b"PROXY ") as silent:
+        require(asks(server, "127.0.0.1", NEW), "the last isn't answered")
+        require(is_closed(silent, SOON), "a header is still awaited")
         server.ends()
 
 
