@@ -334,15 +334,15 @@ def what_the_system_refuses(program):
 
 def the_end_after_one_that_cannot_be_watched(program):
     """It counts as served, so the server ends once the others are gone, too."""
-    errors = {EPOLL_CTL: 0}
-    judged = Judged(lambda call: errors[EPOLL_CTL], EPOLL_CTL, clock=Clock())
+    errors = {}
+    judged = Judged(lambda call: errors.get(call.number), EPOLL_CTL, clock=Clock())
     options = ("--no-console", "--workers", "1", "--connections", "2")
     with Server(program, *options, before=judged.begin) as server, judged:
         starts(server)
         errors[EPOLL_CTL] = -errno.ENOSPC
         with connect(server) as device:
             require(is_closed(device, LONGEST_WAIT), "one is kept that can't be watched")
-        errors[EPOLL_CTL] = 0
+        errors.clear()
         require(is_permitted(server), "the last isn't served")
         server.ends(is_listening=False)
 
