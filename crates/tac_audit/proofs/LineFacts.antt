@@ -1,5 +1,5 @@
 -- The line of what is noted of a notice.
-use Rattle.std.proofs.Common.{◌≡◌, ℕ, List, ◌++◌, true, false, Option, Some, None, append_assoc, codes, refl, ap, ◌∙◌}
+use Rattle.std.proofs.Common.{◌≡◌, ℕ, List, ◌++◌, true, false, Option, Some, None, append_assoc, codes, refl, sym, ap, ◌∙◌}
 use Rattle.std.specs.Prelude.{is_some}
 use Rattle.tac_audit.specs.declared.event.Origin.{Origin}
 use Rattle.tac_audit.specs.Json.{text_json, member}
@@ -12,10 +12,9 @@ pub none_told : (time : Option (List ℕ)) (origin : Origin) (session : ℕ) (to
 none_told time origin session None old none = refl
 none_told time origin session (Some told) old none = absurd cc
 
-in_line : (old head origin session told end : List ℕ) → ((old ++ (head ++ origin ++ session)) ++ told) ++ end ≡ old ++ (head ++ origin ++ session ++ told ++ end)
-in_line old head origin session told end =
-    append_assoc (old ++ (head ++ origin ++ session)) told end ∙ append_assoc old (head ++ origin ++ session) (told ++ end)
-    ∙ ap (λ (l : List ℕ). old ++ l) (append_assoc head (origin ++ session) (told ++ end) ∙ ap (λ (l : List ℕ). head ++ l) (append_assoc origin session (told ++ end)))
+in_line : (old head told end : List ℕ) → ((old ++ head) ++ told) ++ end ≡ old ++ (head ++ told ++ end)
+in_line old head told end =
+    append_assoc (old ++ head) told end ∙ append_assoc old head (told ++ end) ∙ ap (λ (l : List ℕ). old ++ l) (sym (append_assoc head told end))
 
 -- a head, what is told, and an end are a line
 pub head_told_end : (time : Option (List ℕ)) (origin : Origin) (session : ℕ) (told : Option Told) (old head mid new : List ℕ)
@@ -25,4 +24,4 @@ pub head_told_end : (time : Option (List ℕ)) (origin : Origin) (session : ℕ)
 head_told_end time origin session None old head mid new some h t e = absurd cc
 head_told_end time origin session (Some told) old head mid new some h t e =
     e ∙ ap (λ (l : List ℕ). l ++ ended) (t ∙ ap (λ (l : List ℕ). l ++ told_json told) h)
-    ∙ in_line old (begun time) (origin_json origin) (member (codes "session") (text_json (session_digits session))) (told_json told) ended
+    ∙ in_line old (begun time ++ origin_json origin ++ member (codes "session") (text_json (session_digits session))) (told_json told) ended
