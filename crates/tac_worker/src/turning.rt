@@ -64,7 +64,7 @@ fn ask_by<C: Caller>(
     ensures makes { IfOk result (λ given. (segment : ℕ) × (place : ℕ) × C.makes caller.old
         (record { ask = ask; segment = segment; place = place; answer = given.0 }) caller.new) }
     ensures kind { IfOk result (λ given. kind_of_answer given.0 ≡ kind_of_ask ask) }
-    ensures same { IfOk result (λ given. given.1.0 ≡ ask) }
+    ensures same { IfOk result (λ given. given.1 ≡ ask) }
     ensures uncalled { IfErr result (working.IsUncalled (C.refuses caller.new) ask) }
     ensures err { OnErr result (C.rests caller.old caller.new) }
     ensures called { MatchResult result (λ given. called.new ≡ called.old ++ (ask, given.0) ∷ [])
