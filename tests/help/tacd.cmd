@@ -1,5 +1,5 @@
 $ tacd --version
-tacd 0.21.0
+tacd 0.22.0
 
 $ tacd -h
 prints tacd.out

@@ -371,7 +371,7 @@ pub fn word_of<'a>(matches: &ArgMatches<'a>, id: &str) -> &'a str {
 }
 
 /// The version of the program.
-pub const VERSION: &str = "0.21.0";
+pub const VERSION: &str = "0.22.0";
 
 /// What the program's command line may be.
 pub fn command<'a>(alloc: Global) -> Result<Command<'a>, AllocError> {

@@ -4,7 +4,7 @@ use basics::Bytes;
 use std::alloc::Global;
 use std::process::Abort;
 use std::test::Fail;
-use tac_conn::{Hash, Typed};
+use tac_conn::{Hash, HashRoom, Typed};
 
 // Hashes of `blue-lake`, under two salts, other rounds, and a salt that begins as the first; and
 // under the first rounds and salt those of `red-lake`, of `x` 128 and 129 times, and of no bytes.
@@ -77,13 +77,13 @@ fn next(alloc: Global, typed: Typed, step: &str) -> Result<Typed, Fail> {
     let (verb, rest) = word(step);
     match verb {
         "type" => return password(alloc, rest),
-        "work" => typed.work_out(&hash(rest)?),
+        "work" => typed.work_out(HashRoom::new(alloc, &hash(rest)?)?),
         "copy" => return Ok(typed.copy(alloc)?),
         _ => {
             let (text, letter) = word(rest);
             let mut other = password(alloc, text)?;
             if !letter.is_empty() {
-                other.work_out(&hash(letter)?);
+                other.work_out(HashRoom::new(alloc, &hash(letter)?)?);
             }
             typed.adopt(other);
         }
@@ -129,14 +129,14 @@ fn what_is_worked_out_serves_its_rounds_and_salt_alone(rt: HostRuntime) -> Resul
         type blue-lake = [abcdefgh] [abcd]
         work a = [bcd] [abcd]
         work e = [bcd] [abcd]
-        copy = [bcd] [abcd]
+        copy = [abcdefgh] [abcd]
         work b = [acdefgh] [abcd]
         work d = [abcefgh] [abcd]
         work c = [abdefgh] [abcd]
-        copy = [abdefgh] [abcd]
+        copy = [abcdefgh] [abcd]
         type red-lake = [abcdefgh] [e]
         work a = [bcd] [e]
-        copy = [bcd] [e]
+        copy = [abcdefgh] [e]
         ",
     )
 }
@@ -186,7 +186,7 @@ fn rounds_are_compared_by_their_number(rt: HostRuntime) -> Result<(), Fail> {
     let unnamed = hash_of(UNNAMED)?;
     let named = hash_of(NAMED)?;
     let mut typed = password(rt.alloc(), "blue-lake")?;
-    typed.work_out(&unnamed);
+    typed.work_out(HashRoom::new(rt.alloc(), &unnamed)?);
     assert!(rt; !typed.takes_rounds(&named));
     assert!(rt; typed.passes(&named));
     Ok(())
@@ -196,10 +196,10 @@ fn rounds_are_compared_by_their_number(rt: HostRuntime) -> Result<(), Fail> {
 fn what_is_worked_out_is_not_worked_out_again(rt: HostRuntime) -> Result<(), Fail> {
     let hash = hash_of(SLOW)?;
     let mut typed = password(rt.alloc(), "blue-lake")?;
-    typed.work_out(&hash);
+    typed.work_out(HashRoom::new(rt.alloc(), &hash)?);
     // It would take minutes, if each took the rounds.
     for _ in 0..30_000 {
-        typed.work_out(&hash);
+        typed.work_out(HashRoom::new(rt.alloc(), &hash)?);
         assert!(rt; typed.passes(&hash));
     }
     Ok(())
@@ -210,7 +210,7 @@ fn passwords_are_the_same_whatever_is_worked_out(rt: HostRuntime) -> Result<(), 
     let mut typed = password(rt.alloc(), "blue-lake")?;
     let same = password(rt.alloc(), "blue-lake")?;
     let other = password(rt.alloc(), "red-lake")?;
-    typed.work_out(&hash("a")?);
+    typed.work_out(HashRoom::new(rt.alloc(), &hash("a")?)?);
     assert!(rt; typed == same);
     assert!(rt; typed != other);
     assert!(rt; typed.as_slice() == b"blue-lake".as_slice());
